@@ -1,0 +1,11 @@
+pub mod DigitLaws
+pub mod CalendarLaws
+pub mod FieldLaws
+pub mod CivilLaws
+pub mod TimeLaws
+pub mod DecimalLaws
+pub mod DurationLaws
+pub mod LastPart
+pub mod Quoting
+pub mod Unquoting
+pub mod UnquotingFronts

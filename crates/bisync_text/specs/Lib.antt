@@ -1,0 +1,11 @@
+pub mod Path
+pub mod PathFault
+pub mod Digits
+pub mod Time
+pub mod TimeFields
+pub mod Duration
+pub mod DurationParts
+pub mod Decimal
+pub mod Quote
+pub mod QuoteFault
+pub mod Unquote
