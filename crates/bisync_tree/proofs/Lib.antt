@@ -1,0 +1,9 @@
+pub mod WindowLemmas
+pub mod PathOrder
+pub mod RisingLemmas
+pub mod SearchLemmas
+pub mod LookLemmas
+pub mod WalkLemmas
+pub mod SameLemmas
+pub mod ListingLemmas
+pub mod PassingLemmas

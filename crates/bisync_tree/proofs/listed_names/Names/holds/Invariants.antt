@@ -1,0 +1,14 @@
+use Rattle.std.proofs.Common.{◌-◌, ◌≤◌, length}
+use Rattle.bisync_tree.proofs.SearchLemmas.{AreBelow, AreBeyond}
+use Rattle.bisync_tree.proofs.listed_names.Names.holds.Given as goal
+
+abbrev pub invariant-loop-low : goal.invariant-loop-low
+invariant-loop-low l = record {
+  in_range : l.low ≤ l.high;
+  within : l.high ≤ length l.paths;
+  below : AreBelow l.paths l.low l.path;
+  beyond : AreBeyond l.paths l.high l.path;
+}
+
+abbrev pub decreases-loop-low : goal.decreases-loop-low
+decreases-loop-low l = l.high - l.low

@@ -1,0 +1,6 @@
+pub mod Side
+pub mod Window
+pub mod Tree
+pub mod Rows
+pub mod Same
+pub mod Walk
