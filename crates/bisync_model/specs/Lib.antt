@@ -1,0 +1,17 @@
+pub mod Trees
+pub mod Policy
+pub mod Entries
+pub mod Known
+pub mod Table
+pub mod Conflict
+pub mod Names
+pub mod Outcome
+pub mod Plan
+pub mod Effects
+pub mod Runs
+pub mod Changes
+pub mod Between
+pub mod Safe
+pub mod Finals
+pub mod Resync
+pub mod Views
