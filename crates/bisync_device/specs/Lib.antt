@@ -1,0 +1,9 @@
+pub mod Faults
+pub mod Reading
+pub mod FolderSet
+pub mod Remote
+pub mod RemoteFolders
+pub mod WorkFolder
+pub mod WorkImages
+pub mod Work
+pub mod Sink
