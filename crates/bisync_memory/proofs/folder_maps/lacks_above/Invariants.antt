@@ -1,0 +1,7 @@
+use Rattle.std.proofs.Common.{◌≡◌, ℕ, true, List, take}
+use Rattle.bisync_device.specs.FolderSet.{has_folder, is_below}
+use Rattle.bisync_memory.specs.Store.{folder_set}
+use Rattle.bisync_memory.proofs.folder_maps.lacks_above.Given as goal
+
+abbrev pub invariant-loop-i : goal.invariant-loop-i
+invariant-loop-i l = (q : List ℕ) → is_below q (take l.i l.text) ≡ true → has_folder (folder_set l.folders.entries) q ≡ true

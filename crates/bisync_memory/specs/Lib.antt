@@ -1,0 +1,9 @@
+pub mod Schedule
+pub mod Acts
+pub mod FolderName
+pub mod Store
+pub mod MemRemote
+pub mod WorkFiles
+pub mod MemWork
+pub mod MemSink
+pub mod MemClocks
