@@ -1,0 +1,14 @@
+pub mod TableLaws
+pub mod Nowhere
+pub mod Decisions
+pub mod DecodingLaws
+pub mod Whole
+pub mod ClassLaws
+pub mod TokenRuns
+pub mod BuildingLaws
+pub mod BraceLaws
+pub mod FaultLaws
+pub mod TokenLaws
+pub mod OneReading
+pub mod OneParsing
+pub mod OneAnswer

@@ -1,0 +1,10 @@
+pub mod CharSet
+pub mod Matching
+pub mod Deciding
+pub mod Spelling
+pub mod Tokens
+pub mod Reading
+pub mod Faults
+pub mod Parsing
+pub mod Building
+pub mod Refusals
