@@ -1,0 +1,10 @@
+pub mod Texts
+pub mod Duration
+pub mod Choices
+pub mod Conversions
+pub mod Command
+pub mod Reading
+pub mod Options
+pub mod Ranges
+pub mod Faults
+pub mod Together
