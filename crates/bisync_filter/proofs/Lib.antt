@@ -1,0 +1,5 @@
+pub mod PassingLaws
+pub mod SpellingLaws
+pub mod ReadingLaws
+pub mod DigestLaws
+pub mod DigitLaws

@@ -1,0 +1,4 @@
+pub mod Trimming
+pub mod Passing
+pub mod Spelling
+pub mod Digests
