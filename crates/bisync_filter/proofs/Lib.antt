@@ -3,3 +3,4 @@ pub mod SpellingLaws
 pub mod ReadingLaws
 pub mod DigestLaws
 pub mod DigitLaws
+pub mod FirstMatchLaws

@@ -1,5 +1,5 @@
 -- A text spells one list of rules, or has one first bad line.
-use Rattle.std.proofs.Common.{◌≡◌, ◌⊎◌, ℕ, ◌+◌, ◌-◌, ◌≤◌, ◌<◌, Bool, true, false, IsTrue, List, [], ◌∷◌, ◌++◌, refl, sym, ◌∙◌, ap, subst, inl, inr, arith}
+use Rattle.std.proofs.Common.{◌≡◌, ℕ, ◌+◌, ◌-◌, ◌≤◌, Bool, true, false, List, [], ◌∷◌, refl, sym, ◌∙◌, ap, subst, inl, inr, arith}
 use Rattle.bisync_glob.specs.Matching.{Glob}
 use Rattle.bisync_glob.specs.Refusals.{IsPatternText}
 use Rattle.bisync_glob.proofs.OneAnswer.{only_pattern}
@@ -9,7 +9,7 @@ use Rattle.bisync_filter.specs.declared.lines.Line.TheVariants.{Skipped, Clears,
 use Rattle.bisync_filter.specs.declared.faults.RuleFault.{RuleFault}
 use Rattle.bisync_filter.specs.declared.faults.RuleFault.TheVariants.{BadLine, OutOfMemory}
 use Rattle.bisync_filter.specs.Trimming.{lines, stripped}
-use Rattle.bisync_filter.specs.Spelling.{Says, SpellsRule, IsNoRule, IsBadLine, size_of, rules_after, mark_of, is_skipped, LeadsTo, IsFirstBadLine, SpellsRules, HasFirstBadLine, IsFaultOf, AreOnlyRules, IsOnlyFaultOf, most_bytes}
+use Rattle.bisync_filter.specs.Spelling.{Says, SpellsRule, IsBadLine, size_of, rules_after, mark_of, is_skipped, LeadsTo, IsFirstBadLine, SpellsRules, IsFaultOf, AreOnlyRules, IsOnlyFaultOf, most_bytes}
 
 mark_of-one : (a b : Bool) → mark_of a ≡ mark_of b → a ≡ b
 mark_of-one true true e = refl

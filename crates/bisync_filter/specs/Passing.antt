@@ -1,6 +1,6 @@
 -- Which paths pass rules: the first rule whose pattern matches decides, and a path that none matches passes.
 -- A text is the list of its characters, and 47 is `/`.
-use Rattle.std.specs.Prelude.{◌≡◌, ◌⊎◌, ◌==◌, ◌&&◌, ◌||◌, ⊤, ℕ, Bool, true, false, not, List, [], ◌∷◌, chars, if◌then◌else◌}
+use Rattle.std.specs.Prelude.{◌≡◌, ◌⊎◌, ◌==◌, ◌&&◌, ◌||◌, ⊤, ℕ, Bool, true, false, not, List, [], ◌∷◌, ◌++◌, All, chars, if◌then◌else◌}
 use Rattle.bisync_glob.specs.Matching.{Glob, Matches}
 use Rattle.bisync_glob.specs.Deciding.{parts_match}
 use Rattle.bisync_filter.specs.declared.rule_lists.Rule.{Rule}
@@ -10,6 +10,14 @@ Passes [] text = ⊤
 Passes (rule ∷ rules) text =
     (Matches rule.pattern text × (rule.includes ≡ true))
     ⊎ ((Matches rule.pattern text → ⊥) × Passes rules text)
+
+-- no rule matches
+abbrev pub NoneMatches : List Rule → List ℕ → Type 0
+NoneMatches rules text = All (λ (rule : Rule). Matches rule.pattern text → ⊥) rules
+
+-- the rule is the first that matches
+abbrev pub IsFirstMatch : Rule → List Rule → List ℕ → Type 0
+IsFirstMatch rule rules text = (before : List Rule) × (later : List Rule) × (rules ≡ before ++ rule ∷ later) × NoneMatches before text × Matches rule.pattern text
 
 -- THE SAME AS TESTS
 

@@ -16,5 +16,5 @@ mod trims;
 
 pub use digests::{digest_text, read_digest};
 pub use faults::RuleFault;
-pub use laws::rules_pass_is_passing;
+pub use laws::{first_match_decides, rules_pass_is_passing};
 pub use rule_lists::Rules;

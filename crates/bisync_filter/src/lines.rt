@@ -1,10 +1,8 @@
 //! What a line says.
 
-ghost use Rattle.std.specs.Prelude.{◌≡◌, ◌≢◌, ◌∷◌, ◌≤◌, List, ℕ, Bool, IfOk, MatchOption};
-ghost use Rattle.bisync_glob.specs.Matching.{Glob};
-ghost use Rattle.bisync_glob.specs.Refusals.{IsPatternText};
+ghost use Rattle.std.specs.Prelude.{◌≡◌, IfOk, MatchOption};
 ghost use Rattle.bisync_filter.specs.Trimming.{stripped};
-ghost use Rattle.bisync_filter.specs.Spelling.{IsNoRule, Says, SplitsAtMark, IsReadRule, is_skipped, mark_of};
+ghost use Rattle.bisync_filter.specs.Spelling.{IsNoRule, Says, SplitsAtMark, IsReadRule, is_skipped};
 
 use crate::rule_lists::Rule;
 use crate::trims::stripped;

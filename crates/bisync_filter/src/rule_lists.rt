@@ -1,6 +1,6 @@
 //! Lists of rules.
 
-ghost use Rattle.std.specs.Prelude.{◌≡◌, ◌≤◌, ◌↔◌, [], IsTrue, IfOk, IfErr, OnOk, chars};
+ghost use Rattle.std.specs.Prelude.{◌≡◌, ◌↔◌, [], IsTrue, IfOk, IfErr, OnOk, chars};
 ghost use Rattle.bisync_filter.specs.Passing.{Passes, rules_pass, text_passes};
 ghost use Rattle.bisync_filter.specs.Spelling.{SpellsRules, IsFaultOf, AreOnlyRules, IsOnlyFaultOf, rules_after};
 

@@ -1,5 +1,5 @@
 use Rattle.std.proofs.Common.{◌≡◌, true, false, sym, ◌∙◌, refl, subst, ◌∷◌, []}
-use Rattle.bisync_filter.specs.Spelling.{IsReadRule, SplitsAtMark}
+use Rattle.bisync_filter.specs.Spelling.{IsReadRule}
 use Rattle.bisync_filter.proofs.ReadingLaws.{no_rule}
 use Rattle.bisync_filter.proofs.lines.read_stripped.Goals as goal
 

@@ -1,4 +1,4 @@
-use Rattle.std.proofs.Common.{◌+◌, ◌≤◌, ℕ, List, [], length}
+use Rattle.std.proofs.Common.{◌+◌, ◌≤◌, ℕ, List, length}
 use Rattle.bisync_filter.specs.declared.rule_lists.Rule.{Rule}
 use Rattle.bisync_filter.specs.Trimming.{lines}
 use Rattle.bisync_filter.specs.Spelling.{LeadsTo, IsFirstBadLine, SpellsRules, HasFirstBadLine}

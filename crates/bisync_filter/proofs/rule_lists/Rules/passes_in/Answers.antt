@@ -1,6 +1,6 @@
-use Rattle.std.proofs.Common.{◌≡◌, ◌∙◌, ap}
+use Rattle.std.proofs.Common.{◌≡◌}
 use Rattle.std.proofs.lemmas.Bool.Decides.{Decides-at}
-use Rattle.bisync_filter.specs.Passing.{Passes, text_passes}
+use Rattle.bisync_filter.specs.Passing.{text_passes}
 use Rattle.bisync_filter.proofs.PassingLaws.{text_passes-Decides}
 use Rattle.bisync_filter.proofs.rule_lists.Rules.passes_in.Goals as goal
 
