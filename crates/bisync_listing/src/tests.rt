@@ -104,7 +104,7 @@ fn tells_the_first_bad_line(rt: HostRuntime) {
     let cases: [(&[u8], u64, u64); 29] = [
         (b"", 62, 1),
         (b"\n", 62, 1),
-        (b"# bisync listing v1 stamp 01\n", 28, 1),
+        (b"# bisync listing v1 stamp 01\n", 99, 1),
         (OLD, 27, 1),
         (b"# bisync listing v1 stamp 1", 28, 1),
         (b"# bisync listing v1 stamp 0\n", 28, 1),
@@ -233,6 +233,20 @@ fn what_is_read_byte_by_byte_is_read_at_once(rt: HostRuntime) -> Result<(), Fail
             }
         }
     }
+    Ok(())
+}
+
+#[test]
+fn a_line_that_is_cut_off_is_told_at_the_end(rt: HostRuntime) -> Result<(), Fail> {
+    let text = b"# bisync listing v1 stamp 1\n- 1 - - 1970-01-01T00:00:01.000000000+0000 \"k";
+    let mut whole = ListingReader::new(rt.alloc(), &Limits::REAL)?;
+    whole.feed(text)?;
+    assert_eq!(rt; whole.end().err(), Some(ListingFault::BadLine(2)));
+    let mut bytes = ListingReader::new(rt.alloc(), &Limits::REAL)?;
+    for byte in text {
+        bytes.feed(&[*byte])?;
+    }
+    assert_eq!(rt; bytes.end().err(), Some(ListingFault::BadLine(2)));
     Ok(())
 }
 
