@@ -4,7 +4,8 @@ use Rattle.std.specs.List.{list_all, list_any, slice_split}
 use Rattle.std.specs.Str.{bytes_eq}
 use Rattle.bisync_tree.specs.declared.entries.Compare.{Compare}
 use Rattle.bisync_tree.specs.declared.windows.Window.TheVariants.{Ns1}
-use Rattle.bisync_opts.specs.Texts.{Text, cut_at, number, is_path, is_suffix}
+use Rattle.bisync_tree.specs.Ranges.{is_suffix, least_lock}
+use Rattle.bisync_opts.specs.Texts.{Text, cut_at, number, is_path}
 use Rattle.bisync_opts.specs.Duration.{duration}
 
 -- a text that isn't empty
@@ -55,10 +56,6 @@ percent text = option_and_then at_most_100 (number 3 text)
 -- a path of one name: it has no `/` (47)
 abbrev pub one_name : Text → Option Text
 one_name text = if is_path text && not (list_any (λ b. b == 47) text) then Some text else None
-
--- two minutes, in nanoseconds
-abbrev pub least_lock : ℕ
-least_lock = 120_000_000_000
 
 -- 0 is for ever
 abbrev pub lock_for : ℕ → Option (Option ℤ)

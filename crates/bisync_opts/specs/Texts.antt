@@ -1,5 +1,5 @@
 -- Tests of texts, and how they are cut.
-use Rattle.std.specs.Prelude.{ℕ, ◌==◌, ◌||◌, ◌&&◌, Bool, not, List, length, Option, Some, None, nat_lt, nat_le, if◌then◌else◌}
+use Rattle.std.specs.Prelude.{ℕ, ◌==◌, ◌&&◌, Bool, not, List, length, Option, Some, None, nat_lt, nat_le, if◌then◌else◌}
 use Rattle.std.specs.List.{list_all, position_or_len, before_first, after_first}
 use Rattle.std.specs.Char.{is_ascii_digit}
 use Rattle.std.specs.Str.{bytes_eq, is_utf8}
@@ -31,11 +31,3 @@ is_path text =
     && is_utf8 text
     && nat_le (length text) 4096
     && not (bytes_eq text partial_name)
-
--- a byte that may stand in a suffix: no `/`, no `,` and no NUL
-abbrev pub is_suffix_byte : ℕ → Bool
-is_suffix_byte b = not (b == 47 || b == 44 || b == 0)
-
--- 1 to 64 such bytes
-abbrev pub is_suffix : Text → Bool
-is_suffix text = nat_le 1 (length text) && nat_le (length text) 64 && list_all is_suffix_byte text

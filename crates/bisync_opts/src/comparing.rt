@@ -4,7 +4,7 @@ ghost use Rattle.std.specs.Prelude.{◌≡◌, IfOk, codes};
 ghost use Rattle.bisync_opts.specs.Choices.{window};
 ghost use Rattle.bisync_opts.specs.Conversions.{fields};
 ghost use Rattle.bisync_opts.specs.Options.{compare_of};
-ghost use Rattle.bisync_opts.specs.Ranges.{ComparesSome};
+ghost use Rattle.bisync_tree.specs.Ranges.{ComparesSome};
 ghost use Rattle.bisync_opts.specs.Reading.{IsReadAs, rows_in, text_of, value};
 
 use crate::choices::window;

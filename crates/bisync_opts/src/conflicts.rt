@@ -4,7 +4,7 @@ ghost use Rattle.std.specs.Prelude.{◌≡◌, IfOk, codes};
 ghost use Rattle.bisync_opts.specs.Conversions.{suffixes};
 ghost use Rattle.bisync_opts.specs.Choices.{preference, loser};
 ghost use Rattle.bisync_opts.specs.Options.{conflict_of};
-ghost use Rattle.bisync_opts.specs.Ranges.{HasSuffixes, IsSuffix};
+ghost use Rattle.bisync_tree.specs.Ranges.{HasSuffixes, IsSuffix};
 ghost use Rattle.bisync_opts.specs.Reading.{IsReadAs, rows_in, text_of, value};
 
 use crate::choices::{loser, preference};

@@ -3,8 +3,8 @@
 ghost use Rattle.std.specs.Prelude.{◌≡◌, ◌≢◌, ◌==◌, ◌≤◌, false, option_map, IfOk, IfSome, IsTrue, codes};
 ghost use Rattle.std.specs.List.{list_all, list_any, slice_split};
 ghost use Rattle.std.specs.Str.{bytes_eq};
-ghost use Rattle.bisync_opts.specs.Ranges.{ComparesSome, IsLongEnough};
-ghost use Rattle.bisync_opts.specs.Texts.{is_path, is_suffix};
+ghost use Rattle.bisync_tree.specs.Ranges.{ComparesSome, IsLongEnough, is_suffix};
+ghost use Rattle.bisync_opts.specs.Texts.{is_path};
 ghost use Rattle.bisync_opts.specs.Conversions.{filled, is_field, has_field, fields, suffix_pair, suffixes, percent, one_name, lock_for, max_lock};
 
 use crate::durations::duration;

@@ -3,7 +3,7 @@
 ghost use Rattle.std.specs.Prelude.{◌≡◌, ◌≤◌, IfOk, codes};
 ghost use Rattle.bisync_opts.specs.Conversions.{one_name, percent};
 ghost use Rattle.bisync_opts.specs.Options.{guard_of};
-ghost use Rattle.bisync_opts.specs.Ranges.{HasPercent};
+ghost use Rattle.bisync_tree.specs.Ranges.{HasPercent};
 ghost use Rattle.bisync_opts.specs.Reading.{IsReadAs, rows_in, text_of, value};
 
 use crate::conversions::{one_name, percent};

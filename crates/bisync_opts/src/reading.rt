@@ -4,7 +4,8 @@ ghost use Rattle.std.specs.Prelude.{◌≡◌, IfOk, codes};
 ghost use Rattle.bisync_opts.specs.Choices.{check_sync};
 ghost use Rattle.bisync_opts.specs.Conversions.{max_lock};
 ghost use Rattle.bisync_opts.specs.Options.{converted, folders_of, options_from, options_of, resync_of};
-ghost use Rattle.bisync_opts.specs.Ranges.{IsInRange, IsLongEnough};
+ghost use Rattle.bisync_tree.specs.Ranges.{IsLongEnough};
+ghost use Rattle.bisync_opts.specs.Ranges.{IsInRange};
 ghost use Rattle.bisync_opts.specs.Reading.{IsReadAs, is_set, rows_in, text_of, value};
 
 use crate::choices::check_sync;

@@ -3,7 +3,8 @@
 ghost use Rattle.std.specs.Prelude.{◌≡◌, ◌≤◌, ◌<◌, option_map, IfSome};
 ghost use Rattle.std.specs.Char.{is_ascii_digit};
 ghost use Rattle.std.specs.List.{list_all};
-ghost use Rattle.bisync_opts.specs.Texts.{cut_at, is_number, number, is_suffix, is_suffix_byte};
+ghost use Rattle.bisync_tree.specs.Ranges.{is_suffix, is_suffix_byte};
+ghost use Rattle.bisync_opts.specs.Texts.{cut_at, is_number, number};
 
 /// What stands before and after the first such character.
 pub fn cut_at(text: &str, separator: char) -> Option<(&str, &str)>

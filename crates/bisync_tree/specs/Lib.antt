@@ -4,3 +4,4 @@ pub mod Tree
 pub mod Rows
 pub mod Same
 pub mod Walk
+pub mod Ranges
