@@ -4,7 +4,8 @@ use Rattle.bisync_listing.specs.FirstBadLine.{IsFirstBadLine, IsSettled}
 use Rattle.bisync_listing.specs.declared.faults.ListingFault.{ListingFault}
 use Rattle.bisync_listing.specs.declared.faults.ListingFault.TheVariants.{BadLine, OutOfMemory}
 
--- a reader: the most bytes that its text may have, the text so far, and the fault that it has met
+-- a reader: the most bytes that its text may have, the fault that it has met, and while there is none the text so far; of the
+-- text nothing is said once a fault was met
 pub record Reading : Type 0 where
   pub limit : ℕ
   pub text : List ℕ

@@ -4,7 +4,7 @@ use crate::{
     Header, ListingFault, ListingReader, ListingWriter, read_listing, text_len, write_listing,
 };
 use bisync_text::Text;
-use bisync_tree::{Compare, Entry, Limits, Window};
+use bisync_tree::{Compare, Entry, Limits, Listing, Window};
 use std::alloc::Global;
 use std::test::Fail;
 
@@ -96,6 +96,24 @@ fn what_is_read_is_written_again(rt: HostRuntime) -> Result<(), Fail> {
             assert_eq!(rt; told, len);
         }
     }
+    Ok(())
+}
+
+#[test]
+fn an_empty_listing_has_two_lines(rt: HostRuntime) -> Result<(), Fail> {
+    let header = Header {
+        stamp: 1,
+        fields: Some(Compare {
+            size: true,
+            time: true,
+            hash: false,
+            window: Window::Ns1,
+        }),
+    };
+    let listing = Listing::new(rt.alloc());
+    let text = write_listing(rt.alloc(), &header, &listing)?;
+    assert_eq!(rt; text.as_bytes(), EMPTY);
+    assert_eq!(rt; text_len(&header, &listing), 62);
     Ok(())
 }
 

@@ -6,7 +6,6 @@ ghost use Rattle.bisync_listing.specs.ListingText.{IsListingText};
 ghost use Rattle.bisync_listing.specs.Answers.{IsFault};
 ghost use Rattle.bisync_listing.specs.Writing.{MayBeWritten};
 
-use crate::listed_rows::see_rows;
 use crate::{Header, ListingFault, ListingReader, ListingWriter};
 use bisync_text::{OutOfMemory, Text};
 use bisync_tree::{Limits, Listing};
@@ -28,10 +27,13 @@ pub fn read_listing(
     reader.end()
 }
 
-/// The text of a header and a listing, in version 2. Its length isn't tested against a limit.
+/// The text of a header and a listing, in version 2. Its length isn't tested against a limit, and it
+/// is read again under each limit that it does not pass.
 pub fn write_listing(alloc: Global, header: &Header, listing: &Listing) -> Result<Text, OutOfMemory>
     requires { MayBeWritten header.now listing.now }
-    ensures { IfOk result (λ text. text ≡ listing_text header.now listing.now) }
+    ensures text { IfOk result (λ text. text ≡ listing_text header.now listing.now) }
+    ensures read_again { (limit : ℕ) → length (listing_text header.now listing.now) ≤ limit
+        → IsListingText limit header.now listing.now (listing_text header.now listing.now) }
 {
     let mut writer = ListingWriter::new(header, listing);
     let mut text = Vec::new(alloc);
@@ -53,7 +55,6 @@ pub fn text_len(header: &Header, listing: &Listing) -> u64
     ensures read_again { (limit : ℕ) → length (listing_text header.now listing.now) ≤ limit
         → IsListingText limit header.now listing.now (listing_text header.now listing.now) }
 {
-    see_rows(listing);
     let mut writer = ListingWriter::new(header, listing);
     let mut buffer = [0u8; BUFFER];
     let mut len: u64 = 0;

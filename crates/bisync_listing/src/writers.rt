@@ -1,9 +1,10 @@
 //! A listing text that is given in pieces.
 
-ghost use Rattle.std.specs.Prelude.{◌≡◌, ◌<◌, ◌≤◌, ◌↔◌, [], ◌++◌, length, take};
+ghost use Rattle.std.specs.Prelude.{◌≡◌, ◌<◌, ◌≤◌, ◌↔◌, ℕ, [], ◌++◌, length, take};
 ghost use Rattle.bisync_listing.specs.Spelling.{listing_text};
 
 use crate::Header;
+use crate::listed_rows::see_rows;
 use crate::pending::Pending;
 use bisync_tree::Listing;
 use std::marker::Model;
@@ -27,13 +28,18 @@ impl<'a> Model for ListingWriter<'a> {
 }
 
 impl<'a> ListingWriter<'a> {
+    ghost use Rattle.bisync_listing.specs.ListingText.{IsListingText};
     ghost use Rattle.bisync_listing.specs.Writing.{MayBeWritten};
 
-    /// A writer of the text of the header and the listing, all of which is still to come.
+    /// A writer of the text of the header and the listing, all of which is still to come. The text is
+    /// read again under each limit that it does not pass.
     pub fn new(header: &'a Header, listing: &'a Listing) -> ListingWriter<'a>
         requires { MayBeWritten header.now listing.now }
-        ensures { result ≡ listing_text header.now listing.now }
+        ensures text { result ≡ listing_text header.now listing.now }
+        ensures read_again { (limit : ℕ) → length (listing_text header.now listing.now) ≤ limit
+            → IsListingText limit header.now listing.now (listing_text header.now listing.now) }
     {
+        see_rows(listing);
         ListingWriter {
             pending: Pending::new(header, listing),
         }

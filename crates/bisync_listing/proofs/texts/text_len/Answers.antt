@@ -1,6 +1,5 @@
 use Rattle.std.proofs.Common.{◌≡◌, ◌+◌, ℕ, length, take, arith, ap, ◌∙◌, length-append}
 use Rattle.std.proofs.lemmas.List.{length-take-le}
-use Rattle.bisync_listing.proofs.ListedLaws.{written_is_text}
 use Rattle.bisync_listing.proofs.texts.text_len.Goals as goal
 
 pub pieces-preserved : goal.pieces-preserved
@@ -10,6 +9,3 @@ pieces-preserved c =
     ∙ ap (λ (n : ℕ). n + length c.fill-count.new.self) (length-take-le c.fill-count.result c.fill-count.new.buffer (omega (arith, c.fill-count.ensures.within, c.fill-count.auto.buffer))) in
     let inv = c.pieces.invariant in
     record { within = omega (arith, inv.within, parts); counted = omega (arith, inv.within, inv.counted, parts, c.saturating_add-len.ensures) }
-
-pub returns-then-count-eq0-clause-read_again : goal.returns-then-count-eq0-clause-read_again
-returns-then-count-eq0-clause-read_again c = written_is_text c.args.header.now c.args.listing.now c.requires c.see_rows.ensures.rising c.see_rows.ensures.each
