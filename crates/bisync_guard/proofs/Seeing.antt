@@ -1,6 +1,6 @@
 -- What is seen of check files with a further cell.
 use Rattle.std.proofs.Common.{◌≡◌, ℕ, Bool, true, false, cond, ◌&&◌, ◌||◌, List, [], ◌∷◌, Option, Some, None, refl, sym, ◌∙◌, ap, Bor}
-use Rattle.std.specs.Prelude.{is_some, not}
+use Rattle.std.specs.Prelude.{is_some, not, IfSome}
 use Rattle.std.specs.Option.{option_or}
 use Rattle.bisync_text.specs.declared.path.Path.{Path}
 use Rattle.bisync_tree.specs.Walk.{CellValue}
@@ -12,7 +12,7 @@ use Rattle.bisync_guard.specs.declared.guards.Guard.TheVariants.{CheckAccess}
 use Rattle.bisync_guard.specs.declared.access.Access.{Access}
 use Rattle.bisync_guard.specs.declared.access.Access.TheVariants.{Unseen, Whole, Missing}
 use Rattle.bisync_guard.specs.CheckFiles.{is_check_file, missing_at}
-use Rattle.bisync_guard.specs.Tally.{guard_after, first_missing_in, missing_file_in, is_check_cell, missing_in}
+use Rattle.bisync_guard.specs.Tally.{guard_of, guard_after, first_missing_in, missing_file_in, is_check_cell, missing_in}
 
 abbrev pub IsNotMissing : Access → Type 0
 IsNotMissing a = (side : Side) (path : Bor Path) → a ≡ Missing side path → ⊥
@@ -41,3 +41,13 @@ unlike r false e is = refl
 pub alike : (r b : Bool) → r ≡ false → r ≡ not b → b ≡ true
 alike r true e is = refl
 alike r false e is = cc
+
+-- no cell is left
+pub at_end : (name : List ℕ) (a : Access) → guard_of a ≡ guard_after name a []
+at_end name Unseen = refl
+at_end name Whole = refl
+at_end name (Missing side path) = refl
+
+pub if_some : (o : Option (List ℕ)) (P : List ℕ → Type 0) → ((name : List ℕ) → o ≡ Some name → P name) → IfSome o P
+if_some None P h = tt
+if_some (Some name) P h = h name refl

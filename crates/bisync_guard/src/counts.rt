@@ -30,6 +30,7 @@ impl Counts {
         ensures gone { result.gone ≡ 0 }
         ensures kept { result.kept ≡ 0 }
         ensures all_fresh { result.all_fresh ≡ true }
+        ensures fits { length base.now < 2 ^ 64 }
     {
         Counts {
             base: base.len() as u64,

@@ -1,0 +1,139 @@
+-- How far a walk has counted.
+use Rattle.std.proofs.Common.{◌≡◌, ℕ, suc, ◌+◌, ◌^◌, ◌<◌, ◌≤◌, Bool, true, false, cond, ◌&&◌, ◌||◌, List, [], ◌∷◌, length, Option, refl, sym, ◌∙◌, ap, subst, arith}
+use Rattle.std.specs.Prelude.{filter, is_some}
+use Rattle.std.specs.List.{list_all, count_by}
+use Rattle.std.proofs.lemmas.List.Sums.{length-filter, sum_by-cons, count_by-le-length}
+use Rattle.bisync_tree.specs.Rows.{PathBytes, Rows, keys, look, is_among, AreRising}
+use Rattle.bisync_tree.specs.Walk.{Listings, CellValue, cell_at, cells, paths_of, AllRising}
+use Rattle.bisync_tree.specs.declared.entries.Entry.{Entry}
+use Rattle.bisync_tree.specs.declared.entries.Compare.{Compare}
+use Rattle.bisync_tree.specs.declared.options.GuardRule.{GuardRule}
+use Rattle.bisync_tree.specs.declared.sides.Side.{Side}
+use Rattle.bisync_tree.proofs.WalkLemmas.{among_paths, rising_paths}
+use Rattle.bisync_guard.specs.declared.counts.Counts.{Counts}
+use Rattle.bisync_guard.specs.BasePaths.{is_gone, class_at, gone_paths, kept_paths, all_are_fresh}
+use Rattle.bisync_guard.specs.Order.{deletes_over, too_many_deletes, changed_all, all_changed}
+use Rattle.bisync_guard.specs.Tally.{number, is_gone_entry, is_kept_entry, is_fresh_if_kept, AreCounts}
+use Rattle.bisync_guard.proofs.WalkedPaths.{count_by-cells, list_all-cells, gone_over, kept_over, fresh_over}
+
+-- the counts so far, with what the rest of the cells adds, are those of the side
+pub record AreSoFar (c : Compare) (base now : Rows) (base_in now_in : CellValue → Option Entry) (rest : List CellValue) (counts : Counts) : Type 0 where
+  pub base_are : counts.base ≡ length base
+  pub fits : length base < 2 ^ 64
+  pub gone : counts.gone + count_by (λ cell. is_gone_entry c (base_in cell) (now_in cell)) rest ≡ length (gone_paths c base now)
+  pub kept : counts.kept + count_by (λ cell. is_kept_entry (base_in cell) (now_in cell)) rest ≡ length (kept_paths base now)
+  pub fresh : (counts.all_fresh && list_all (λ cell. is_fresh_if_kept c (base_in cell) (now_in cell)) rest) ≡ all_are_fresh c base now
+
+-- a cell's share in a count
+count_by-cell : (f : CellValue → Bool) (cell : CellValue) (rest : List CellValue) → count_by f (cell ∷ rest) ≡ number (f cell) + count_by f rest
+count_by-cell f cell rest = sum_by-cons (λ cell. cond (f cell) 1 0) cell rest
+
+length-keys : (rows : Rows) → length (keys rows) ≡ length rows
+length-keys [] = refl
+length-keys (r ∷ rs) = ap suc (length-keys rs)
+
+picked-le : (f : PathBytes → Bool) (rows : Rows) → length (filter f (keys rows)) ≤ length rows
+picked-le f rows = omega (arith, length-filter f (keys rows), count_by-le-length f (keys rows), length-keys rows)
+
+-- there is room for the next cell
+pub gone_fits : (c : Compare) (base now : Rows) (base_in now_in : CellValue → Option Entry) (cell : CellValue) (rest : List CellValue) (counts : Counts)
+    → AreSoFar c base now base_in now_in (cell ∷ rest) counts → counts.gone + number (is_gone_entry c (base_in cell) (now_in cell)) < 2 ^ 64
+gone_fits c base now base_in now_in cell rest counts h = omega (arith, h.fits, h.gone, count_by-cell (λ cell. is_gone_entry c (base_in cell) (now_in cell)) cell rest, picked-le (λ p. is_gone (class_at c base now p)) base)
+
+pub kept_fits : (c : Compare) (base now : Rows) (base_in now_in : CellValue → Option Entry) (cell : CellValue) (rest : List CellValue) (counts : Counts)
+    → AreSoFar c base now base_in now_in (cell ∷ rest) counts → counts.kept + number (is_kept_entry (base_in cell) (now_in cell)) < 2 ^ 64
+kept_fits c base now base_in now_in cell rest counts h = omega (arith, h.fits, h.kept, count_by-cell (λ cell. is_kept_entry (base_in cell) (now_in cell)) cell rest, picked-le (λ p. is_some (look now p)) base)
+
+-- the next cell is counted
+pub with_cell : (c : Compare) (base now : Rows) (base_in now_in : CellValue → Option Entry) (cell : CellValue) (rest : List CellValue) (counts more : Counts)
+    → AreSoFar c base now base_in now_in (cell ∷ rest) counts
+    → more.base ≡ counts.base
+    → more.gone ≡ counts.gone + number (is_gone_entry c (base_in cell) (now_in cell))
+    → more.kept ≡ counts.kept + number (is_kept_entry (base_in cell) (now_in cell))
+    → more.all_fresh ≡ (counts.all_fresh && is_fresh_if_kept c (base_in cell) (now_in cell))
+    → AreSoFar c base now base_in now_in rest more
+with_cell c base now base_in now_in cell rest counts more h same gone kept fresh = record {
+  base_are = same ∙ h.base_are;
+  fits = h.fits;
+  gone = omega (arith, h.gone, gone, count_by-cell (λ cell. is_gone_entry c (base_in cell) (now_in cell)) cell rest);
+  kept = omega (arith, h.kept, kept, count_by-cell (λ cell. is_kept_entry (base_in cell) (now_in cell)) cell rest);
+  fresh = ap (λ b. b && list_all (λ cell. is_fresh_if_kept c (base_in cell) (now_in cell)) rest) fresh ∙ and_assoc counts.all_fresh _ _ ∙ h.fresh;
+}
+  where
+    and_assoc : (a b d : Bool) → ((a && b) && d) ≡ (a && (b && d))
+    and_assoc true b d = refl
+    and_assoc false b d = refl
+
+-- all cells are counted
+pub all_counted : (c : Compare) (base now : Rows) (base_in now_in : CellValue → Option Entry) (rest : List CellValue) (counts : Counts)
+    → AreSoFar c base now base_in now_in rest counts → rest ≡ [] → AreCounts c base now counts
+all_counted c base now base_in now_in [] counts h e = record {
+  base_are = h.base_are;
+  gone_are = omega (arith, h.gone);
+  kept_are = omega (arith, h.kept);
+  fresh_are = sym (and_true counts.all_fresh) ∙ h.fresh;
+}
+  where
+    and_true : (a : Bool) → (a && true) ≡ a
+    and_true true = refl
+    and_true false = refl
+all_counted c base now base_in now_in (cell ∷ rest) counts h e = cc
+
+-- nothing is counted yet
+nothing_yet : (c : Compare) (base now : Rows) (base_in now_in : CellValue → Option Entry) (all : List CellValue) (counts : Counts)
+    → counts.base ≡ length base → length base < 2 ^ 64 → counts.gone ≡ 0 → counts.kept ≡ 0 → counts.all_fresh ≡ true
+    → count_by (λ cell. is_gone_entry c (base_in cell) (now_in cell)) all ≡ length (gone_paths c base now)
+    → count_by (λ cell. is_kept_entry (base_in cell) (now_in cell)) all ≡ length (kept_paths base now)
+    → list_all (λ cell. is_fresh_if_kept c (base_in cell) (now_in cell)) all ≡ all_are_fresh c base now
+    → AreSoFar c base now base_in now_in all counts
+nothing_yet c base now base_in now_in all counts is fits gone kept fresh gone_all kept_all fresh_all = record {
+  base_are = is;
+  fits = fits;
+  gone = omega (arith, gone, gone_all);
+  kept = omega (arith, kept, kept_all);
+  fresh = ap (λ b. b && list_all (λ cell. is_fresh_if_kept c (base_in cell) (now_in cell)) all) fresh ∙ fresh_all;
+}
+
+covered : (l : Listings) (a b c d : Bool) (p : PathBytes) → is_among p (paths_of l) ≡ (a || (b || (c || d))) → (a || b) ≡ true → is_among p (paths_of l) ≡ true
+covered l true b c d p e some = e
+covered l false true c d p e some = e
+covered l false false c d p e some = cc
+
+pub start_one : (c : Compare) (l : Listings) (counts : Counts) → AllRising l
+    → counts.base ≡ length l.base1 → length l.base1 < 2 ^ 64 → counts.gone ≡ 0 → counts.kept ≡ 0 → counts.all_fresh ≡ true
+    → AreSoFar c l.base1 l.now1 (λ cell. cell.base1) (λ cell. cell.now1) (cells l) counts
+start_one c l counts rising is fits gone kept fresh =
+    nothing_yet c l.base1 l.now1 (λ cell. cell.base1) (λ cell. cell.now1) (cells l) counts is fits gone kept fresh
+    (count_by-cells _ (cell_at l) (paths_of l) ∙ gone_over c l.base1 l.now1 (paths_of l) (rising_paths l) rising.base1 has)
+    (count_by-cells _ (cell_at l) (paths_of l) ∙ kept_over l.base1 l.now1 (paths_of l) (rising_paths l) rising.base1 has)
+    (list_all-cells _ (cell_at l) (paths_of l) ∙ fresh_over c l.base1 l.now1 (paths_of l) (rising_paths l) rising.base1 has)
+  where
+    has : (p : PathBytes) → is_among p (keys l.base1) ≡ true → is_among p (paths_of l) ≡ true
+    has p e = covered l (is_among p (keys l.base1)) (is_among p (keys l.base2)) (is_among p (keys l.now1)) (is_among p (keys l.now2)) p (among_paths l p) (ap (λ b. b || is_among p (keys l.base2)) e)
+
+pub start_two : (c : Compare) (l : Listings) (counts : Counts) → AllRising l
+    → counts.base ≡ length l.base2 → length l.base2 < 2 ^ 64 → counts.gone ≡ 0 → counts.kept ≡ 0 → counts.all_fresh ≡ true
+    → AreSoFar c l.base2 l.now2 (λ cell. cell.base2) (λ cell. cell.now2) (cells l) counts
+start_two c l counts rising is fits gone kept fresh =
+    nothing_yet c l.base2 l.now2 (λ cell. cell.base2) (λ cell. cell.now2) (cells l) counts is fits gone kept fresh
+    (count_by-cells _ (cell_at l) (paths_of l) ∙ gone_over c l.base2 l.now2 (paths_of l) (rising_paths l) rising.base2 has)
+    (count_by-cells _ (cell_at l) (paths_of l) ∙ kept_over l.base2 l.now2 (paths_of l) (rising_paths l) rising.base2 has)
+    (list_all-cells _ (cell_at l) (paths_of l) ∙ fresh_over c l.base2 l.now2 (paths_of l) (rising_paths l) rising.base2 has)
+  where
+    or_true : (a : Bool) → (a || true) ≡ true
+    or_true true = refl
+    or_true false = refl
+
+    has : (p : PathBytes) → is_among p (keys l.base2) ≡ true → is_among p (paths_of l) ≡ true
+    has p e =
+        covered l (is_among p (keys l.base1)) (is_among p (keys l.base2)) (is_among p (keys l.now1)) (is_among p (keys l.now2)) p (among_paths l p)
+        (ap (λ b. is_among p (keys l.base1) || b) e ∙ or_true (is_among p (keys l.base1)))
+
+-- the guards of the counts are those of the side
+pub deletes_of : (guards : GuardRule) (c : Compare) (side : Side) (base now : Rows) (counts : Counts) → AreCounts c base now counts
+    → deletes_over guards side counts.gone counts.base ≡ too_many_deletes guards c side base now
+deletes_of guards c side base now counts h = λ i. deletes_over guards side (h.gone_are i) (h.base_are i)
+
+pub changes_of : (guards : GuardRule) (c : Compare) (side : Side) (base now : Rows) (counts : Counts) → AreCounts c base now counts
+    → changed_all guards side counts.kept counts.all_fresh ≡ all_changed guards c side base now
+changes_of guards c side base now counts h = λ i. changed_all guards side (h.kept_are i) (h.fresh_are i)
