@@ -1,5 +1,5 @@
 -- What is seen of check files with a further cell.
-use Rattle.std.proofs.Common.{◌≡◌, ℕ, Bool, true, false, cond, ◌&&◌, ◌||◌, List, [], ◌∷◌, Option, Some, None, refl, sym, ◌∙◌, ap, Bor}
+use Rattle.std.proofs.Common.{◌≡◌, ℕ, Bool, true, false, cond, ◌&&◌, ◌||◌, List, [], ◌∷◌, Option, Some, None, refl, sym, ◌∙◌, ap, subst, Bor}
 use Rattle.std.specs.Prelude.{is_some, not, IfSome}
 use Rattle.std.specs.Option.{option_or}
 use Rattle.bisync_text.specs.declared.path.Path.{Path}
@@ -51,3 +51,7 @@ at_end name (Missing side path) = refl
 pub if_some : (o : Option (List ℕ)) (P : List ℕ → Type 0) → ((name : List ℕ) → o ≡ Some name → P name) → IfSome o P
 if_some None P h = tt
 if_some (Some name) P h = h name refl
+
+pub at_some : (o : Option (List ℕ)) (P : List ℕ → Type 0) (name : List ℕ) → o ≡ Some name → IfSome o P → P name
+at_some None P name e h = cc
+at_some (Some other) P name e h = let is : other ≡ name = cc in subst P is h
