@@ -5,3 +5,7 @@ pub mod WalkedPaths
 pub mod WalkedFiles
 pub mod Counting
 pub mod FirstOf
+pub mod FirstMissing
+pub mod CountGuards
+pub mod CheckFileGuard
+pub mod OrderOfGuards

@@ -62,22 +62,25 @@ same_tests false false true d true = refl
 same_tests false false false true true = refl
 same_tests false false false false true = refl
 
+pub rising_paths_now : (now1 now2 : Rows) → AreRising (with_paths (keys now1) (with_paths (keys now2) []))
+rising_paths_now now1 now2 = rising_withs (keys now1) _ (rising_withs (keys now2) [] tt)
+
+pub among_paths_now : (now1 now2 : Rows) (p : PathBytes) → is_among p (with_paths (keys now1) (with_paths (keys now2) [])) ≡ (is_some (look now1 p) || is_some (look now2 p))
+among_paths_now now1 now2 p =
+    among_withs p (keys now1) _ ∙ ap (λ x. is_among p (keys now1) || x) (among_withs p (keys now2) [] ∙ or_false (is_among p (keys now2)))
+    ∙ (λ i. sym (look_is_some now1 p) i || sym (look_is_some now2 p) i)
+
 picked_files : (name : List ℕ) (l : Listings) → files_in name l (paths_of l) ≡ check_files name l.now1 l.now2
 picked_files name l =
     same_picks (λ p. is_check_cell name (cell_at l p)) (is_check_file name) (paths_of l) (with_paths (keys l.now1) (with_paths (keys l.now2) []))
-    (rising_paths l) (rising_withs (keys l.now1) _ (rising_withs (keys l.now2) [] tt)) at
+    (rising_paths l) (rising_paths_now l.now1 l.now2) at
   where
-    both : (p : PathBytes) → is_among p (with_paths (keys l.now1) (with_paths (keys l.now2) [])) ≡ (is_some (look l.now1 p) || is_some (look l.now2 p))
-    both p =
-        among_withs p (keys l.now1) _ ∙ ap (λ x. is_among p (keys l.now1) || x) (among_withs p (keys l.now2) [] ∙ or_false (is_among p (keys l.now2)))
-        ∙ (λ i. sym (look_is_some l.now1 p) i || sym (look_is_some l.now2 p) i)
-
     at : (p : PathBytes) → (is_among p (paths_of l) && is_check_cell name (cell_at l p)) ≡ (is_among p (with_paths (keys l.now1) (with_paths (keys l.now2) [])) && is_check_file name p)
     at p =
         ap (λ x. x && is_check_cell name (cell_at l p))
         (among_paths l p ∙ (λ i. is_among p (keys l.base1) || (is_among p (keys l.base2) || (sym (look_is_some l.now1 p) i || sym (look_is_some l.now2 p) i))))
         ∙ same_tests (is_among p (keys l.base1)) (is_among p (keys l.base2)) (is_some (look l.now1 p)) (is_some (look l.now2 p)) (is_check_file name p)
-        ∙ ap (λ x. x && is_check_file name p) (sym (both p))
+        ∙ ap (λ x. x && is_check_file name p) (sym (among_paths_now l.now1 l.now2 p))
 
 pub files_walked : (name : List ℕ) (l : Listings) → missing_file_in name (cells l) ≡ missing_file l.now1 l.now2 (check_files name l.now1 l.now2)
 files_walked name l = all_in name l (paths_of l) ∙ ap (missing_file l.now1 l.now2) (picked_files name l)

@@ -1,5 +1,5 @@
 -- When the condition of a guard holds, path by path, with exactly that side, path and numbers.
-use Rattle.std.specs.Prelude.{◌≡◌, ◌<◌, ◌≤◌, ◌*◌, ℕ, Bool, true, false, List, [], length, Option, Some, None, is_some, IsTrue, IsSomeAnd}
+use Rattle.std.specs.Prelude.{◌≡◌, ◌<◌, ◌≤◌, ◌*◌, ℕ, true, false, List, [], length, Option, Some, None, is_some, IsSomeAnd}
 use Rattle.std.specs.Ordering.{nat_cmp}
 use Rattle.std.specs.Cmp.Lexicographic.{slice_cmp}
 use Rattle.std.specs.declared.cmp.Ordering.TheVariants.{Less}
@@ -30,7 +30,7 @@ now_of view Two = view.now2
 pub record IsFirstMissing (view : View) (side : Side) (p : PathBytes) (name : List ℕ) : Type 0 where
   pub named : IsLastPart p name
   pub lacked : look (now_of view side) p ≡ None
-  pub there : IsTrue (is_some (look (now_of view (other side)) p))
+  pub there : is_some (look (now_of view (other side)) p) ≡ true
   pub first : (q : PathBytes) → slice_cmp nat_cmp q p ≡ Less → IsLastPart q name → is_some (look view.now1 q) ≡ is_some (look view.now2 q)
 
 -- neither side has a path with this last name
@@ -50,7 +50,7 @@ pub record AreAllChanged (guards : GuardRule) (c : Compare) (base now : Rows) (n
   pub unforced : guards.force ≡ false
   pub kept_are : n ≡ length (kept_paths base now)
   pub some : 1 ≤ n
-  pub fresh : (p : PathBytes) → IsTrue (is_some (look base p)) → IsTrue (is_some (look now p)) → class_at c base now p ≡ Fresh
+  pub fresh : (p : PathBytes) → is_some (look base p) ≡ true → is_some (look now p) ≡ true → class_at c base now p ≡ Fresh
 
 -- the condition of a guard holds
 abbrev pub IsGuard : GuardRule → Compare → View → Guard → Type 0
