@@ -21,10 +21,7 @@ use Rattle.bisync_guard.proofs.LastNames.{named, has_name}
 use Rattle.bisync_guard.proofs.Picks.{among-filter, rising-filter}
 use Rattle.bisync_guard.proofs.WalkedFiles.{rising_paths_now, among_paths_now}
 use Rattle.bisync_guard.proofs.FirstMissing.{IsFirstLacking, lacking_at, Finds, finds, found}
-
-both_of : (a b : Bool) → (a && b) ≡ true → (a ≡ true) × (b ≡ true)
-both_of true b e = (refl, e)
-both_of false b e = cc
+use Rattle.bisync_guard.proofs.Values.{both_of, guard_is}
 
 -- what the side that lacks a path says of it
 lacks_one : (one two : Option Entry) → lacking_side one two ≡ Some One → (one ≡ None) × (is_some two ≡ true)
@@ -133,9 +130,6 @@ IsAccess check view (CheckAccess Two None) = ⊥
 IsAccess check view (EmptyCurrent side) = ⊥
 IsAccess check view (TooManyDeletes side gone n) = ⊥
 IsAccess check view (AllChanged side n) = ⊥
-
-guard_is : {a b : Guard} → ◌≡◌ {A = Option Guard} (Some a) (Some b) → a ≡ b
-guard_is e = cc
 
 files_sound : (name : List ℕ) (view : View) (files : List PathBytes) (g : Guard) → check_files name view.now1 view.now2 ≡ files → missing_file view.now1 view.now2 files ≡ Some g
     → IsAccess (Some name) view g

@@ -18,18 +18,12 @@ use Rattle.bisync_guard.specs.BasePaths.{is_fresh, class_at, gone_paths, kept_pa
 use Rattle.bisync_guard.specs.Order.{empty_current, too_many_deletes, all_changed}
 use Rattle.bisync_guard.specs.Conditions.{AreTooMany, AreAllChanged}
 use Rattle.bisync_guard.proofs.Picks.{among-filter}
-
-guard_is : {a b : Guard} → ◌≡◌ {A = Option Guard} (Some a) (Some b) → a ≡ b
-guard_is e = cc
+use Rattle.bisync_guard.proofs.Values.{both_of, guard_is}
 
 -- a guard that a test lets through
 passed : (b : Bool) (x g : Guard) → cond b (Some x) None ≡ Some g → (b ≡ true) × (x ≡ g)
 passed true x g e = (refl, guard_is e)
 passed false x g e = cc
-
-both_of : (a b : Bool) → (a && b) ≡ true → (a ≡ true) × (b ≡ true)
-both_of true b e = (refl, e)
-both_of false b e = cc
 
 unforced : (f : Bool) → not f ≡ true → f ≡ false
 unforced false e = refl

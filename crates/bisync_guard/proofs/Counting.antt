@@ -15,6 +15,7 @@ use Rattle.bisync_guard.specs.BasePaths.{is_gone, class_at, gone_paths, kept_pat
 use Rattle.bisync_guard.specs.Order.{deletes_over, too_many_deletes, changed_all, all_changed}
 use Rattle.bisync_guard.specs.Tally.{number, is_gone_entry, is_kept_entry, is_fresh_if_kept, AreCounts}
 use Rattle.bisync_guard.proofs.WalkedPaths.{count_by-cells, list_all-cells, gone_over, kept_over, fresh_over}
+use Rattle.bisync_guard.proofs.Values.{or_true}
 
 -- the counts so far, with what the rest of the cells adds, are those of the side
 pub record AreSoFar (c : Compare) (base now : Rows) (base_in now_in : CellValue → Option Entry) (rest : List CellValue) (counts : Counts) : Type 0 where
@@ -36,48 +37,19 @@ picked-le : (f : PathBytes → Bool) (rows : Rows) → length (filter f (keys ro
 picked-le f rows = omega (arith, length-filter f (keys rows), count_by-le-length f (keys rows), length-keys rows)
 
 -- there is room for the next cell
-pub gone_fits : (c : Compare) (base now : Rows) (base_in now_in : CellValue → Option Entry) (cell : CellValue) (rest : List CellValue) (counts : Counts)
-    → AreSoFar c base now base_in now_in (cell ∷ rest) counts → counts.gone + number (is_gone_entry c (base_in cell) (now_in cell)) < 2 ^ 64
-gone_fits c base now base_in now_in cell rest counts h = omega (arith, h.fits, h.gone, count_by-cell (λ cell. is_gone_entry c (base_in cell) (now_in cell)) cell rest, picked-le (λ p. is_gone (class_at c base now p)) base)
+pub gone_fits : {c : Compare} {base now : Rows} {base_in now_in : CellValue → Option Entry} {walk : List CellValue} {counts : Counts} (cell : CellValue) (rest : List CellValue)
+    → AreSoFar c base now base_in now_in walk counts → walk ≡ cell ∷ rest → counts.gone + number (is_gone_entry c (base_in cell) (now_in cell)) < 2 ^ 64
+gone_fits {c} {base} {now} {base_in} {now_in} {walk} {counts} cell rest h e =
+    let more : count_by (λ cell. is_gone_entry c (base_in cell) (now_in cell)) walk ≡ number (is_gone_entry c (base_in cell) (now_in cell)) + count_by (λ cell. is_gone_entry c (base_in cell) (now_in cell)) rest
+    = ap (count_by (λ cell. is_gone_entry c (base_in cell) (now_in cell))) e ∙ count_by-cell (λ cell. is_gone_entry c (base_in cell) (now_in cell)) cell rest in
+    omega (arith, h.fits, h.gone, more, picked-le (λ p. is_gone (class_at c base now p)) base)
 
-pub kept_fits : (c : Compare) (base now : Rows) (base_in now_in : CellValue → Option Entry) (cell : CellValue) (rest : List CellValue) (counts : Counts)
-    → AreSoFar c base now base_in now_in (cell ∷ rest) counts → counts.kept + number (is_kept_entry (base_in cell) (now_in cell)) < 2 ^ 64
-kept_fits c base now base_in now_in cell rest counts h = omega (arith, h.fits, h.kept, count_by-cell (λ cell. is_kept_entry (base_in cell) (now_in cell)) cell rest, picked-le (λ p. is_some (look now p)) base)
-
--- the next cell is counted
-pub with_cell : (c : Compare) (base now : Rows) (base_in now_in : CellValue → Option Entry) (cell : CellValue) (rest : List CellValue) (counts more : Counts)
-    → AreSoFar c base now base_in now_in (cell ∷ rest) counts
-    → more.base ≡ counts.base
-    → more.gone ≡ counts.gone + number (is_gone_entry c (base_in cell) (now_in cell))
-    → more.kept ≡ counts.kept + number (is_kept_entry (base_in cell) (now_in cell))
-    → more.all_fresh ≡ (counts.all_fresh && is_fresh_if_kept c (base_in cell) (now_in cell))
-    → AreSoFar c base now base_in now_in rest more
-with_cell c base now base_in now_in cell rest counts more h same gone kept fresh = record {
-  base_are = same ∙ h.base_are;
-  fits = h.fits;
-  gone = omega (arith, h.gone, gone, count_by-cell (λ cell. is_gone_entry c (base_in cell) (now_in cell)) cell rest);
-  kept = omega (arith, h.kept, kept, count_by-cell (λ cell. is_kept_entry (base_in cell) (now_in cell)) cell rest);
-  fresh = ap (λ b. b && list_all (λ cell. is_fresh_if_kept c (base_in cell) (now_in cell)) rest) fresh ∙ and_assoc counts.all_fresh _ _ ∙ h.fresh;
-}
-  where
-    and_assoc : (a b d : Bool) → ((a && b) && d) ≡ (a && (b && d))
-    and_assoc true b d = refl
-    and_assoc false b d = refl
-
--- all cells are counted
-pub all_counted : (c : Compare) (base now : Rows) (base_in now_in : CellValue → Option Entry) (rest : List CellValue) (counts : Counts)
-    → AreSoFar c base now base_in now_in rest counts → rest ≡ [] → AreCounts c base now counts
-all_counted c base now base_in now_in [] counts h e = record {
-  base_are = h.base_are;
-  gone_are = omega (arith, h.gone);
-  kept_are = omega (arith, h.kept);
-  fresh_are = sym (and_true counts.all_fresh) ∙ h.fresh;
-}
-  where
-    and_true : (a : Bool) → (a && true) ≡ a
-    and_true true = refl
-    and_true false = refl
-all_counted c base now base_in now_in (cell ∷ rest) counts h e = cc
+pub kept_fits : {c : Compare} {base now : Rows} {base_in now_in : CellValue → Option Entry} {walk : List CellValue} {counts : Counts} (cell : CellValue) (rest : List CellValue)
+    → AreSoFar c base now base_in now_in walk counts → walk ≡ cell ∷ rest → counts.kept + number (is_kept_entry (base_in cell) (now_in cell)) < 2 ^ 64
+kept_fits {c} {base} {now} {base_in} {now_in} {walk} {counts} cell rest h e =
+    let more : count_by (λ cell. is_kept_entry (base_in cell) (now_in cell)) walk ≡ number (is_kept_entry (base_in cell) (now_in cell)) + count_by (λ cell. is_kept_entry (base_in cell) (now_in cell)) rest
+    = ap (count_by (λ cell. is_kept_entry (base_in cell) (now_in cell))) e ∙ count_by-cell (λ cell. is_kept_entry (base_in cell) (now_in cell)) cell rest in
+    omega (arith, h.fits, h.kept, more, picked-le (λ p. is_some (look now p)) base)
 
 -- nothing is counted yet
 nothing_yet : (c : Compare) (base now : Rows) (base_in now_in : CellValue → Option Entry) (all : List CellValue) (counts : Counts)
@@ -120,10 +92,6 @@ start_two c l counts rising is fits gone kept fresh =
     (count_by-cells _ (cell_at l) (paths_of l) ∙ kept_over l.base2 l.now2 (paths_of l) (rising_paths l) rising.base2 has)
     (list_all-cells _ (cell_at l) (paths_of l) ∙ fresh_over c l.base2 l.now2 (paths_of l) (rising_paths l) rising.base2 has)
   where
-    or_true : (a : Bool) → (a || true) ≡ true
-    or_true true = refl
-    or_true false = refl
-
     has : (p : PathBytes) → is_among p (keys l.base2) ≡ true → is_among p (paths_of l) ≡ true
     has p e =
         covered l (is_among p (keys l.base1)) (is_among p (keys l.base2)) (is_among p (keys l.now1)) (is_among p (keys l.now2)) p (among_paths l p)

@@ -10,6 +10,7 @@ use Rattle.bisync_tree.proofs.RisingLemmas.{above_trans, absent_below, here}
 use Rattle.bisync_guard.specs.declared.guards.Guard.{Guard}
 use Rattle.bisync_guard.specs.declared.guards.Guard.TheVariants.{CheckAccess}
 use Rattle.bisync_guard.specs.CheckFiles.{lacking_side, missing_at, first_missing}
+use Rattle.bisync_guard.proofs.Values.{guard_is}
 
 abbrev pub lacking_at : Rows → Rows → PathBytes → Option Side
 lacking_at now1 now2 p = lacking_side (look now1 p) (look now2 p)
@@ -41,9 +42,6 @@ pub record Finds (now1 now2 : Rows) (ps : List PathBytes) (guard : Guard) : Type
   pub path : PathBytes
   pub is : guard ≡ CheckAccess side (Some path)
   pub lacking : IsFirstLacking now1 now2 ps side path
-
-guard_is : {a b : Guard} → ◌≡◌ {A = Option Guard} (Some a) (Some b) → a ≡ b
-guard_is e = cc
 
 pub finds : (now1 now2 : Rows) (ps : List PathBytes) (guard : Guard) → AreRising ps → first_missing now1 now2 ps ≡ Some guard → Finds now1 now2 ps guard
 finds now1 now2 [] guard rising e = cc

@@ -1,3 +1,4 @@
+pub mod Values
 pub mod LastNames
 pub mod Seeing
 pub mod Picks

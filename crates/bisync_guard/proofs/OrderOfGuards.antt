@@ -12,6 +12,7 @@ use Rattle.bisync_guard.specs.Order.{check_access, empty_current, guards_in_orde
 use Rattle.bisync_guard.specs.Conditions.{IsGuard, place, base_of, now_of}
 use Rattle.bisync_guard.proofs.CheckFileGuard.{IsAccess, access_sound, missing_found, nowhere_found}
 use Rattle.bisync_guard.proofs.CountGuards.{empty_sound, deletes_sound, deletes_complete, changes_sound, changes_complete}
+use Rattle.bisync_guard.proofs.Values.{guard_is}
 
 -- a guard that a test gives is one of this place, whose condition holds
 abbrev Sound : GuardRule → Compare → View → ℕ → Option Guard → Type 0
@@ -20,9 +21,6 @@ Sound guards c view k test = (g : Guard) → test ≡ Some g → IsGuard guards 
 abbrev AreSound : GuardRule → Compare → View → ℕ → List (Option Guard) → Type 0
 AreSound guards c view k [] = Unit {0}
 AreSound guards c view k (test ∷ tests) = Sound guards c view k test × AreSound guards c view (suc k) tests
-
-some_guard : {a b : Guard} → ◌≡◌ {A = Option Guard} (Some a) (Some b) → a ≡ b
-some_guard e = cc
 
 got : {a b : Option Guard} → ◌≡◌ {A = Option (Option Guard)} (Some a) (Some b) → a ≡ b
 got e = cc
@@ -98,4 +96,4 @@ none_exactly guards c view = (
 
 pub one_at_a_place : (guards : GuardRule) (c : Compare) (view : View) (g h : Guard) → IsGuard guards c view g → IsGuard guards c view h → place g ≡ place h → g ≡ h
 one_at_a_place guards c view g h a b same =
-    some_guard (got (sym (at_place guards c view g a) ∙ ap (slice_get (guards_in_order guards c view)) same ∙ at_place guards c view h b))
+    guard_is (got (sym (at_place guards c view g a) ∙ ap (slice_get (guards_in_order guards c view)) same ∙ at_place guards c view h b))

@@ -5,6 +5,7 @@ use Rattle.std.specs.List.{list_all, count_by}
 use Rattle.bisync_tree.specs.Rows.{PathBytes, is_among, AreAbove, AreRising}
 use Rattle.bisync_tree.proofs.PathOrder.{same_path}
 use Rattle.bisync_tree.proofs.RisingLemmas.{rising_same}
+use Rattle.bisync_guard.proofs.Values.{and_false}
 
 above-filter : (f : PathBytes → Bool) (p : PathBytes) (ps : List PathBytes) → AreAbove p ps → AreAbove p (filter f ps)
 above-filter f p [] h = tt
@@ -21,10 +22,6 @@ rising-filter f (q ∷ qs) h = by (f q) (rising-filter f qs h.1)
     by : (b : Bool) → AreRising (filter f qs) → AreRising (cond b (q ∷ filter f qs) (filter f qs))
     by true rest = (above-filter f q qs h.0, rest)
     by false rest = rest
-
-and_false : (a : Bool) → (a && false) ≡ false
-and_false true = refl
-and_false false = refl
 
 pub among-filter : (f : PathBytes → Bool) (ps : List PathBytes) (p : PathBytes) → is_among p (filter f ps) ≡ (is_among p ps && f p)
 among-filter f [] p = refl

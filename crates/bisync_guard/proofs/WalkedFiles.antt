@@ -12,6 +12,7 @@ use Rattle.bisync_guard.specs.declared.guards.Guard.{Guard}
 use Rattle.bisync_guard.specs.CheckFiles.{is_check_file, check_files, missing_at, first_missing, missing_file}
 use Rattle.bisync_guard.specs.Tally.{first_missing_in, missing_file_in, is_check_cell}
 use Rattle.bisync_guard.proofs.Picks.{same_picks}
+use Rattle.bisync_guard.proofs.Values.{and_false, or_false}
 
 -- the check files among some paths
 abbrev files_in : List ℕ → Listings → List PathBytes → List PathBytes
@@ -41,14 +42,6 @@ all_in name l (p ∷ ps) = by (is_check_cell name (cell_at l p)) refl (first_in 
         ≡ missing_file l.now1 l.now2 (cond b (p ∷ files_in name l ps) (files_in name l ps))
     by true e first rest = first ∙ ap (λ b. first_missing l.now1 l.now2 (cond b (p ∷ files_in name l ps) (files_in name l ps))) e
     by false e first rest = rest
-
-or_false : (a : Bool) → (a || false) ≡ a
-or_false true = refl
-or_false false = refl
-
-and_false : (a : Bool) → (a && false) ≡ false
-and_false true = refl
-and_false false = refl
 
 same_tests : (a b c d k : Bool) → ((a || (b || (c || d))) && (k && (c || d))) ≡ ((c || d) && k)
 same_tests a b c d false = and_false (a || (b || (c || d))) ∙ sym (and_false (c || d))

@@ -11,6 +11,7 @@ use Rattle.bisync_tree.proofs.LookLemmas.{look_is_some}
 use Rattle.bisync_guard.specs.BasePaths.{gone_paths, kept_paths, all_are_fresh, class_at, is_fresh}
 use Rattle.bisync_guard.specs.Tally.{is_gone_entry, is_kept_entry, is_fresh_if_kept}
 use Rattle.bisync_guard.proofs.Picks.{same_picks, list_all-filter}
+use Rattle.bisync_guard.proofs.Values.{and_false}
 
 -- the paths have all of these
 abbrev pub AreCovered : Rows → List PathBytes → Type 0
@@ -26,10 +27,6 @@ count_by-cells f at (p ∷ ps) =
 pub list_all-cells : (f : CellValue → Bool) (at : PathBytes → CellValue) (ps : List PathBytes) → list_all f (map at ps) ≡ list_all (λ p. f (at p)) ps
 list_all-cells f at [] = refl
 list_all-cells f at (p ∷ ps) = ap (λ b. f (at p) && b) (list_all-cells f at ps)
-
-and_false : (a : Bool) → (a && false) ≡ false
-and_false true = refl
-and_false false = refl
 
 -- what holds of listed paths alone is picked from all paths as from the listed ones
 picked : (base : Rows) (ps : List PathBytes) (f g : PathBytes → Bool) → AreRising ps → AreRising (keys base) → AreCovered base ps

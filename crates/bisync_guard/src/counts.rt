@@ -1,8 +1,7 @@
 //! What became of the paths in the base of one side.
 
-ghost use Rattle.std.specs.Prelude.{◌≡◌, ◌+◌, ◌<◌, ◌≤◌, ◌^◌, ◌&&◌, length, option_copied, true};
+ghost use Rattle.std.specs.Prelude.{◌≡◌, ◌+◌, ◌<◌, ◌^◌, ◌&&◌, length, option_copied, true};
 ghost use Rattle.bisync_guard.specs.Order.{deletes_over, changed_all};
-ghost use Rattle.bisync_tree.specs.Ranges.{HasPercent};
 
 use crate::Guard;
 use bisync_tree::comparing::class;
@@ -62,7 +61,6 @@ impl Counts {
 
     /// That more of the paths are gone than the limit allows.
     pub(crate) fn too_many_deletes(&self, guards: &GuardRule, side: Side) -> Option<Guard>
-        requires percent { HasPercent guards.now }
         ensures { result ≡ deletes_over guards.now side self.now.gone self.now.base }
     {
         let allowed = u128::from(guards.max_delete) * u128::from(self.base);

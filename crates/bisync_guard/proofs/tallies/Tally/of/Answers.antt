@@ -23,24 +23,16 @@ loop-cell-init c =
     }
 
 pub add-requires-clause-gone : goal.add-requires-clause-gone
-add-requires-clause-gone c =
-    gone_fits c.args.compare.now c.args.view.now.base1 c.args.view.now.now1 (λ cell. cell.base1) (λ cell. cell.now1) (seen c.in-Some.cell) c.next.new.self c.loop-cell.one
-    (subst (λ w. AreSoFar c.args.compare.now c.args.view.now.base1 c.args.view.now.now1 (λ cell. cell.base1) (λ cell. cell.now1) w c.loop-cell.one) c.in-Some.ensures.cell c.loop-cell.invariant.one)
+add-requires-clause-gone c = gone_fits (seen c.in-Some.cell) _ c.loop-cell.invariant.one c.in-Some.ensures.cell
 
 pub add-requires-clause-kept : goal.add-requires-clause-kept
-add-requires-clause-kept c =
-    kept_fits c.args.compare.now c.args.view.now.base1 c.args.view.now.now1 (λ cell. cell.base1) (λ cell. cell.now1) (seen c.in-Some.cell) c.next.new.self c.loop-cell.one
-    (subst (λ w. AreSoFar c.args.compare.now c.args.view.now.base1 c.args.view.now.now1 (λ cell. cell.base1) (λ cell. cell.now1) w c.loop-cell.one) c.in-Some.ensures.cell c.loop-cell.invariant.one)
+add-requires-clause-kept c = kept_fits (seen c.in-Some.cell) _ c.loop-cell.invariant.one c.in-Some.ensures.cell
 
 pub add-requires-in-Some-clause-gone : goal.add-requires-in-Some-clause-gone
-add-requires-in-Some-clause-gone c =
-    gone_fits c.args.compare.now c.args.view.now.base2 c.args.view.now.now2 (λ cell. cell.base2) (λ cell. cell.now2) (seen c.in-Some.cell) c.next.new.self c.loop-cell.two
-    (subst (λ w. AreSoFar c.args.compare.now c.args.view.now.base2 c.args.view.now.now2 (λ cell. cell.base2) (λ cell. cell.now2) w c.loop-cell.two) c.in-Some.ensures.cell c.loop-cell.invariant.two)
+add-requires-in-Some-clause-gone c = gone_fits (seen c.in-Some.cell) _ c.loop-cell.invariant.two c.in-Some.ensures.cell
 
 pub add-requires-in-Some-clause-kept : goal.add-requires-in-Some-clause-kept
-add-requires-in-Some-clause-kept c =
-    kept_fits c.args.compare.now c.args.view.now.base2 c.args.view.now.now2 (λ cell. cell.base2) (λ cell. cell.now2) (seen c.in-Some.cell) c.next.new.self c.loop-cell.two
-    (subst (λ w. AreSoFar c.args.compare.now c.args.view.now.base2 c.args.view.now.now2 (λ cell. cell.base2) (λ cell. cell.now2) w c.loop-cell.two) c.in-Some.ensures.cell c.loop-cell.invariant.two)
+add-requires-in-Some-clause-kept c = kept_fits (seen c.in-Some.cell) _ c.loop-cell.invariant.two c.in-Some.ensures.cell
 
 pub returns-clause-access : goal.returns-clause-access
 returns-clause-access c = if_some _ _ (λ name asked.
