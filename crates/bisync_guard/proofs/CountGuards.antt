@@ -87,13 +87,15 @@ pub changes_sound : (guards : GuardRule) (c : Compare) (side : Side) (base now :
 changes_sound guards c side base now g e =
     let p = passed _ _ g e in
     let q = both_of _ _ p.0 in
-    let r = both_of _ _ q.0 in
-    (sym p.1, record {
-      unforced = unforced guards.force r.0;
-      kept_are = refl;
-      some = at_least _ r.1;
-      fresh = λ path listed there. fresh_is _ (among_all (λ p. is_fresh (class_at c base now p)) (kept_paths base now) path q.1 (kept_among base now path ∙ (λ i. listed i && there i)));
-    })
+    let r = both_of _ _ q.0 in (
+      sym p.1,
+      record {
+        unforced = unforced guards.force r.0;
+        kept_are = refl;
+        some = at_least _ r.1;
+        fresh = λ path listed there. fresh_is _ (among_all (λ p. is_fresh (class_at c base now p)) (kept_paths base now) path q.1 (kept_among base now path ∙ (λ i. listed i && there i)));
+      },
+    )
   where
     at_least : (n : ℕ) → nat_le 1 n ≡ true → 1 ≤ n
     at_least n e = grind (arith, nat_tests)

@@ -58,13 +58,26 @@ is_given guards c view k g h is given = subst (λ x. IsGuard guards c view x × 
 all_sound : (guards : GuardRule) (c : Compare) (view : View) → AreSound guards c view 0 (guards_in_order guards c view)
 all_sound guards c view = (
   λ g e. access_at guards c view g (access_sound guards.check view g e),
-  (λ g e. let h = empty_sound One view.now1 g e in is_given guards c view 1 g _ h.0 (h.1, refl),
-  (λ g e. let h = empty_sound Two view.now2 g e in is_given guards c view 2 g _ h.0 (h.1, refl),
-  (λ g e. let h = deletes_sound guards c One view.base1 view.now1 g e in is_given guards c view 3 g _ h.0 (h.1, refl),
-  (λ g e. let h = deletes_sound guards c Two view.base2 view.now2 g e in is_given guards c view 4 g _ h.0 (h.1, refl),
-  (λ g e. let h = changes_sound guards c One view.base1 view.now1 g e in is_given guards c view 5 g _ h.0 (h.1, refl),
-  (λ g e. let h = changes_sound guards c Two view.base2 view.now2 g e in is_given guards c view 6 g _ h.0 (h.1, refl),
-  tt)))))))
+  (
+    λ g e. let h = empty_sound One view.now1 g e in is_given guards c view 1 g _ h.0 (h.1, refl),
+    (
+      λ g e. let h = empty_sound Two view.now2 g e in is_given guards c view 2 g _ h.0 (h.1, refl),
+      (
+        λ g e. let h = deletes_sound guards c One view.base1 view.now1 g e in is_given guards c view 3 g _ h.0 (h.1, refl),
+        (
+          λ g e. let h = deletes_sound guards c Two view.base2 view.now2 g e in is_given guards c view 4 g _ h.0 (h.1, refl),
+          (
+            λ g e. let h = changes_sound guards c One view.base1 view.now1 g e in is_given guards c view 5 g _ h.0 (h.1, refl),
+            (
+              λ g e. let h = changes_sound guards c Two view.base2 view.now2 g e in is_given guards c view 6 g _ h.0 (h.1, refl),
+              tt,
+            ),
+          ),
+        ),
+      ),
+    ),
+  ),
+)
 
 -- a guard whose condition holds stands at its place
 at_place : (guards : GuardRule) (c : Compare) (view : View) (g : Guard) → IsGuard guards c view g → slice_get (guards_in_order guards c view) (place g) ≡ Some (Some g)
@@ -88,7 +101,8 @@ nothing_before guards c view g h e holds =
 pub none_exactly : (guards : GuardRule) (c : Compare) (view : View) → (first_guard guards c view ≡ None) ↔ ((g : Guard) → IsGuard guards c view g → ⊥)
 none_exactly guards c view = (
   λ e g holds. none_is_none (place g) (guards_in_order guards c view) g e (at_place guards c view g holds),
-  λ none. by none (first_guard guards c view) refl)
+  λ none. by none (first_guard guards c view) refl,
+)
   where
     by : ((g : Guard) → IsGuard guards c view g → ⊥) → (v : Option Guard) → first_guard guards c view ≡ v → v ≡ None
     by none None e = refl

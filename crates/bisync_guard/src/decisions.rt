@@ -27,13 +27,15 @@ pub fn decide(
         Some(_) => tally.access.guard(alloc)?,
         None => None,
     };
-    Ok(access
-        .or(empty_current(Side::One, &view.now1))
-        .or(empty_current(Side::Two, &view.now2))
-        .or(tally.one.too_many_deletes(guards, Side::One))
-        .or(tally.two.too_many_deletes(guards, Side::Two))
-        .or(tally.one.all_changed(guards, Side::One))
-        .or(tally.two.all_changed(guards, Side::Two)))
+    Ok(
+        access
+            .or(empty_current(Side::One, &view.now1))
+            .or(empty_current(Side::Two, &view.now2))
+            .or(tally.one.too_many_deletes(guards, Side::One))
+            .or(tally.two.too_many_deletes(guards, Side::Two))
+            .or(tally.one.all_changed(guards, Side::One))
+            .or(tally.two.all_changed(guards, Side::Two)),
+    )
 }
 
 /// That nothing is on a side now.
