@@ -17,7 +17,7 @@ use Rattle.bisync_guard.specs.declared.guards.Guard.TheVariants.{EmptyCurrent, T
 use Rattle.bisync_guard.specs.BasePaths.{is_fresh, class_at, gone_paths, kept_paths, all_are_fresh}
 use Rattle.bisync_guard.specs.Order.{empty_current, too_many_deletes, all_changed}
 use Rattle.bisync_guard.specs.Conditions.{AreTooMany, AreAllChanged}
-use Rattle.bisync_guard.proofs.Picks.{among-filter}
+use Rattle.bisync_guard.proofs.Picks.{among-filter, among_later}
 use Rattle.bisync_guard.proofs.Values.{both_of, guard_is}
 
 -- a guard that a test lets through
@@ -65,14 +65,7 @@ among_all f (q ∷ qs) p all among = by (bytes_eq p q) refl (λ m. among_all f q
 
 all_among : (f : PathBytes → Bool) (ps : List PathBytes) → ((p : PathBytes) → is_among p ps ≡ true → f p ≡ true) → list_all f ps ≡ true
 all_among f [] h = refl
-all_among f (q ∷ qs) h = λ i. h q (here q qs) i && all_among f qs (λ p among. h p (later p among)) i
-  where
-    later : (p : PathBytes) → is_among p qs ≡ true → is_among p (q ∷ qs) ≡ true
-    later p e = by (bytes_eq p q)
-      where
-        by : (b : Bool) → (b || is_among p qs) ≡ true
-        by true = refl
-        by false = e
+all_among f (q ∷ qs) h = λ i. h q (here q qs) i && all_among f qs (λ p among. h p (among_later p q qs among)) i
 
 fresh_is : (class : Class) → is_fresh class ≡ true → class ≡ Fresh
 fresh_is Quiet e = cc

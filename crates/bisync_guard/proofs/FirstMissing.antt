@@ -10,6 +10,7 @@ use Rattle.bisync_tree.proofs.RisingLemmas.{above_trans, absent_below, here}
 use Rattle.bisync_guard.specs.declared.guards.Guard.{Guard}
 use Rattle.bisync_guard.specs.declared.guards.Guard.TheVariants.{CheckAccess}
 use Rattle.bisync_guard.specs.CheckFiles.{lacking_side, missing_at, first_missing}
+use Rattle.bisync_guard.proofs.Picks.{among_later}
 use Rattle.bisync_guard.proofs.Values.{guard_is}
 
 abbrev pub lacking_at : Rows → Rows → PathBytes → Option Side
@@ -20,13 +21,6 @@ pub record IsFirstLacking (now1 now2 : Rows) (ps : List PathBytes) (side : Side)
   pub among : is_among p ps ≡ true
   pub lacks : lacking_at now1 now2 p ≡ Some side
   pub first : (q : PathBytes) → order q p ≡ Less → is_among q ps ≡ true → lacking_at now1 now2 q ≡ None
-
-among_later : (p q : PathBytes) (qs : List PathBytes) → is_among p qs ≡ true → is_among p (q ∷ qs) ≡ true
-among_later p q qs e = by (bytes_eq p q)
-  where
-    by : (b : Bool) → (b || is_among p qs) ≡ true
-    by true = refl
-    by false = e
 
 above_among : (q p : PathBytes) (qs : List PathBytes) → AreAbove q qs → is_among p qs ≡ true → order q p ≡ Less
 above_among q p [] h e = cc

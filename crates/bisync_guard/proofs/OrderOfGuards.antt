@@ -111,3 +111,15 @@ none_exactly guards c view = (
 pub one_at_a_place : (guards : GuardRule) (c : Compare) (view : View) (g h : Guard) → IsGuard guards c view g → IsGuard guards c view h → place g ≡ place h → g ≡ h
 one_at_a_place guards c view g h a b same =
     guard_is (got (sym (at_place guards c view g a) ∙ ap (slice_get (guards_in_order guards c view)) same ∙ at_place guards c view h b))
+
+pub first_is_answer : (guards : GuardRule) (c : Compare) (view : View) (g : Guard) → IsGuard guards c view g
+    → ((h : Guard) → IsGuard guards c view h → place g ≤ place h) → first_guard guards c view ≡ Some g
+first_is_answer guards c view g holds first = by (first_guard guards c view) refl
+  where
+    by : (v : Option Guard) → first_guard guards c view ≡ v → v ≡ Some g
+    by None e = absurd ((none_exactly guards c view).0 e g holds)
+    by (Some h) e =
+        let given : IsGuard guards c view h = answer_holds guards c view h e in
+        let before : place h ≤ place g = nothing_before guards c view h g e holds in
+        let behind : place g ≤ place h = first h given in
+        ap Some (one_at_a_place guards c view h g given holds (omega arith))

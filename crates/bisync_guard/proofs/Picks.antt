@@ -5,7 +5,7 @@ use Rattle.std.specs.List.{list_all, count_by}
 use Rattle.bisync_tree.specs.Rows.{PathBytes, is_among, AreAbove, AreRising}
 use Rattle.bisync_tree.proofs.PathOrder.{same_path}
 use Rattle.bisync_tree.proofs.RisingLemmas.{rising_same}
-use Rattle.bisync_guard.proofs.Values.{and_false}
+use Rattle.bisync_guard.proofs.Values.{and_false, or_true}
 
 above-filter : (f : PathBytes → Bool) (p : PathBytes) (ps : List PathBytes) → AreAbove p ps → AreAbove p (filter f ps)
 above-filter f p [] h = tt
@@ -35,6 +35,9 @@ among-filter f (q ∷ qs) p = by (f q) (bytes_eq p q) refl refl (among-filter f 
         let left : f p ≡ false = ap f (same_path p q e) ∙ picked in
         rest ∙ ap (λ x. is_among p qs && x) left ∙ and_false (is_among p qs) ∙ sym left
     by false false picked e rest = rest
+
+pub among_later : (p q : PathBytes) (qs : List PathBytes) → is_among p qs ≡ true → is_among p (q ∷ qs) ≡ true
+among_later p q qs e = ap (λ b. bytes_eq p q || b) e ∙ or_true (bytes_eq p q)
 
 -- rising paths from which the same is picked
 pub same_picks : (f g : PathBytes → Bool) (ps qs : List PathBytes) → AreRising ps → AreRising qs

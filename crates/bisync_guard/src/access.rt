@@ -24,7 +24,8 @@ impl<'a> Access<'a> {
 
     /// What is seen with a further cell.
     pub(crate) fn with(self, name: &Text, cell: &Cell<'a>) -> Access<'a>
-        ensures { (rest : List CellValue) → guard_after name.now result rest ≡ guard_after name.now self.entry (seen cell.now ∷ rest) }
+        ensures { (rest : List CellValue) → guard_after name.now result rest
+            ≡ guard_after name.now self.entry (seen cell.now ∷ rest) }
     {
         if cell.path.last_part() != name.as_bytes() {
             return self;

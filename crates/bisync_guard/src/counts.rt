@@ -41,12 +41,17 @@ impl Counts {
 
     /// Counts a path, by its base entry and its entry now.
     pub(crate) fn add(&mut self, compare: &Compare, base: Option<&Entry>, now: Option<&Entry>)
-        requires gone { self.old.gone + number (is_gone_entry compare.now (option_copied base) (option_copied now)) < 2 ^ 64 }
-        requires kept { self.old.kept + number (is_kept_entry (option_copied base) (option_copied now)) < 2 ^ 64 }
+        requires gone { self.old.gone
+            + number (is_gone_entry compare.now (option_copied base) (option_copied now)) < 2 ^ 64 }
+        requires kept { self.old.kept
+            + number (is_kept_entry (option_copied base) (option_copied now)) < 2 ^ 64 }
         ensures base { self.new.base ≡ self.old.base }
-        ensures gone { self.new.gone ≡ self.old.gone + number (is_gone_entry compare.now (option_copied base.entry) (option_copied now.entry)) }
-        ensures kept { self.new.kept ≡ self.old.kept + number (is_kept_entry (option_copied base.entry) (option_copied now.entry)) }
-        ensures all_fresh { self.new.all_fresh ≡ (self.old.all_fresh && is_fresh_if_kept compare.now (option_copied base.entry) (option_copied now.entry)) }
+        ensures gone { self.new.gone ≡ self.old.gone
+            + number (is_gone_entry compare.now (option_copied base.entry) (option_copied now.entry)) }
+        ensures kept { self.new.kept ≡ self.old.kept
+            + number (is_kept_entry (option_copied base.entry) (option_copied now.entry)) }
+        ensures all_fresh { self.new.all_fresh ≡ (self.old.all_fresh
+            && is_fresh_if_kept compare.now (option_copied base.entry) (option_copied now.entry)) }
     {
         match class(compare, base, now) {
             Class::Gone => self.gone += 1,

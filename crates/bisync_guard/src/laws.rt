@@ -27,6 +27,13 @@ pub fn nothing_before_the_answer_holds()
         first_guard guards c view ≡ Some guard → IsGuard guards c view other → place guard ≤ place other }
 {}
 
+/// A guard whose condition holds is the answer, where none before it has a condition that holds.
+pub fn the_first_guard_that_holds_is_the_answer()
+    ensures { (guards : GuardRule) (c : Compare) (view : View) (guard : Guard) → IsGuard guards c view guard →
+        ((other : Guard) → IsGuard guards c view other → place guard ≤ place other) →
+        first_guard guards c view ≡ Some guard }
+{}
+
 /// There is no answer exactly where no guard's condition holds.
 pub fn no_answer_where_no_guard_holds()
     ensures { (guards : GuardRule) (c : Compare) (view : View) →

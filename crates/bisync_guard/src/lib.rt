@@ -16,5 +16,5 @@ pub use decisions::decide;
 pub use guards::Guard;
 pub use laws::{
     check_files_have_the_name, guards_at_one_place_are_equal, no_answer_where_no_guard_holds,
-    nothing_before_the_answer_holds, the_answer_holds,
+    nothing_before_the_answer_holds, the_answer_holds, the_first_guard_that_holds_is_the_answer,
 };

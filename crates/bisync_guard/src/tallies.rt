@@ -1,7 +1,7 @@
 //! One walk that counts both sides.
 
-ghost use Rattle.std.specs.Prelude.{◌≡◌, option_copied, IfSome};
-ghost use Rattle.bisync_guard.specs.CheckFiles.{check_files, missing_file};
+ghost use Rattle.std.specs.Prelude.{◌≡◌, Some, option_copied, IfSome};
+ghost use Rattle.bisync_guard.specs.Order.{check_access};
 ghost use Rattle.bisync_guard.specs.Tally.{AreCounts, guard_of};
 
 use crate::access::Access;
@@ -12,9 +12,11 @@ use bisync_tree::{Compare, View, Walk};
 /// What the guards ask of a view.
 #[derive(Clone, Copy)]
 pub(crate) struct Tally<'a> {
+    /// Path1's counts.
     pub(crate) one: Counts,
+    /// Path2's counts.
     pub(crate) two: Counts,
-    /// Nothing is seen where access isn't checked.
+    /// What is seen of check files; nothing where access isn't checked.
     pub(crate) access: Access<'a>,
 }
 
@@ -23,7 +25,8 @@ impl<'a> Tally<'a> {
     pub(crate) fn of(check: Option<&Text>, compare: &Compare, view: &'a View) -> Tally<'a>
         ensures one { AreCounts compare.now view.now.base1 view.now.now1 result.one }
         ensures two { AreCounts compare.now view.now.base2 view.now.now2 result.two }
-        ensures access { IfSome (option_copied check.entry) (λ name. guard_of result.access ≡ missing_file view.now.now1 view.now.now2 (check_files name view.now.now1 view.now.now2)) }
+        ensures access { IfSome (option_copied check.entry) (λ name.
+            guard_of result.access ≡ check_access (Some name) view.now.now1 view.now.now2) }
     {
         let mut one = Counts::new(&view.base1);
         let mut two = Counts::new(&view.base2);
