@@ -1,6 +1,6 @@
 -- The guards in the order in which they are tested, and the first whose condition holds. After rclone's manual page "bisync";
 -- the exact conditions and the order are this project's own.
-use Rattle.std.specs.Prelude.{ℕ, Bool, not, ◌&&◌, ◌*◌, List, [], ◌∷◌, length, Option, Some, None, nat_lt, nat_le, if◌then◌else◌}
+use Rattle.std.specs.Prelude.{ℕ, Bool, true, false, not, ◌&&◌, ◌*◌, List, [], ◌∷◌, length, Option, Some, None, nat_lt, nat_le, if◌then◌else◌}
 use Rattle.bisync_tree.specs.Rows.{Rows}
 use Rattle.bisync_tree.specs.declared.entries.Compare.{Compare}
 use Rattle.bisync_tree.specs.declared.options.GuardRule.{GuardRule}
@@ -8,7 +8,7 @@ use Rattle.bisync_tree.specs.declared.sides.Side.{Side}
 use Rattle.bisync_tree.specs.declared.sides.Side.TheVariants.{One, Two}
 use Rattle.bisync_tree.specs.declared.views.View.{View}
 use Rattle.bisync_guard.specs.declared.guards.Guard.{Guard}
-use Rattle.bisync_guard.specs.declared.guards.Guard.TheVariants.{EmptyCurrent, TooManyDeletes, AllChanged}
+use Rattle.bisync_guard.specs.declared.guards.Guard.TheVariants.{CheckAccess, EmptyCurrent, TooManyDeletes, AllChanged}
 use Rattle.bisync_guard.specs.CheckFiles.{check_files, missing_file}
 use Rattle.bisync_guard.specs.BasePaths.{gone_paths, kept_paths, all_are_fresh}
 
@@ -57,3 +57,12 @@ first_of (Some guard ∷ rest) = Some guard
 -- the first guard whose condition holds
 abbrev pub first_guard : GuardRule → Compare → View → Option Guard
 first_guard guards c view = first_of (guards_in_order guards c view)
+
+-- whether a guard tells a path
+abbrev pub tells_path : Option Guard → Bool
+tells_path None = false
+tells_path (Some (CheckAccess side None)) = false
+tells_path (Some (CheckAccess side (Some p))) = true
+tells_path (Some (EmptyCurrent side)) = false
+tells_path (Some (TooManyDeletes side gone n)) = false
+tells_path (Some (AllChanged side n)) = false

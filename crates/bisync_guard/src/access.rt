@@ -1,6 +1,6 @@
 //! What is seen of check files.
 
-ghost use Rattle.std.specs.Prelude.{◌≡◌, ◌∷◌, List, IfOk};
+ghost use Rattle.std.specs.Prelude.{◌≡◌, ◌∷◌, List, IfOk, OnErr, IsTrue};
 ghost use Rattle.bisync_tree.specs.Walk.{CellValue, seen};
 
 use crate::Guard;
@@ -21,6 +21,7 @@ pub(crate) enum Access<'a> {
 
 impl<'a> Access<'a> {
     ghost use Rattle.bisync_guard.specs.Tally.{guard_of, guard_after};
+    ghost use Rattle.bisync_guard.specs.Order.{tells_path};
 
     /// What is seen with a further cell.
     pub(crate) fn with(self, name: &Text, cell: &Cell<'a>) -> Access<'a>
@@ -41,7 +42,8 @@ impl<'a> Access<'a> {
 
     /// The guard of what was seen.
     pub(crate) fn guard(self, alloc: Global) -> Result<Option<Guard>, OutOfMemory>
-        ensures { IfOk result (λ found. found ≡ guard_of self.entry) }
+        ensures found { IfOk result (λ found. found ≡ guard_of self.entry) }
+        ensures memory { OnErr result (IsTrue (tells_path (guard_of self.entry))) }
     {
         match self {
             Access::Unseen => Ok(Some(Guard::CheckAccess(Side::One, None))),

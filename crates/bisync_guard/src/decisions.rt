@@ -1,8 +1,8 @@
 //! Which guard stops a run.
 
-ghost use Rattle.std.specs.Prelude.{◌≡◌, IfOk};
+ghost use Rattle.std.specs.Prelude.{◌≡◌, IfOk, OnErr, IsTrue};
 ghost use Rattle.bisync_tree.specs.Ranges.{HasPercent, ComparesSome};
-ghost use Rattle.bisync_guard.specs.Order.{empty_current as empty_guard, first_guard};
+ghost use Rattle.bisync_guard.specs.Order.{empty_current as empty_guard, first_guard, tells_path};
 
 use crate::Guard;
 use crate::tallies::Tally;
@@ -11,7 +11,8 @@ use bisync_tree::{Compare, GuardRule, Listing, Side, View};
 use std::alloc::Global;
 
 /// The first guard whose condition holds, over the paths that pass; None exactly where none holds.
-/// Memory is taken for the path that `CheckAccess` carries, and for nothing else.
+/// Memory is taken for the path that `CheckAccess` carries, and for nothing else: want of it is
+/// answered only where that guard is the first.
 pub fn decide(
     alloc: Global,
     guards: &GuardRule,
@@ -20,7 +21,8 @@ pub fn decide(
 ) -> Result<Option<Guard>, OutOfMemory>
     requires percent { HasPercent guards.now }
     requires compares { ComparesSome compare.now }
-    ensures { IfOk result (λ found. found ≡ first_guard guards.now compare.now view.now) }
+    ensures found { IfOk result (λ found. found ≡ first_guard guards.now compare.now view.now) }
+    ensures memory { OnErr result (IsTrue (tells_path (first_guard guards.now compare.now view.now))) }
 {
     let tally = Tally::of(guards.check.as_ref(), compare, view);
     let access = match guards.check {

@@ -10,15 +10,15 @@ use Rattle.bisync_guard.proofs.FirstOf.{first_of_seven}
 use Rattle.bisync_guard.proofs.decisions.decide.Goals as goal
 use Rattle.bisync_guard.proofs.decisions.decide.Goals.{in-Some+in_ok-access-in-Some, in-None}
 
-pub returns : goal.returns
-returns c =
+pub returns-clause-found : goal.returns-clause-found
+returns-clause-found c =
     let g = c.args.guards.now in
     let k = c.args.compare.now in
     let v = c.args.view.now in
     let access : c.match-guards.access ≡ check_access g.check v.now1 v.now2
     = elim c.match-guards.branch [
       | in-Some+in_ok-access-in-Some w ↦
-          w.access-is ∙ w.in_ok-access-in-Some.ensures
+          w.access-is ∙ w.in_ok-access-in-Some.ensures.found
           ∙ at_some _ (λ name. guard_of c.of-tally.result.access ≡ missing_file v.now1 v.now2 (check_files name v.now1 v.now2)) w.in-Some.field-0 (c.as_ref.ensures.value ∙ w.in-Some.is) c.of-tally.ensures.access
           ∙ sym (ap (λ check. check_access check v.now1 v.now2) w.in-Some.is)
       | in-None w ↦ w.access-is ∙ sym (ap (λ check. check_access check v.now1 v.now2) w.in-None.is)
