@@ -1,7 +1,6 @@
 -- The guard of check files, and its condition.
 use Rattle.std.proofs.Common.{◌≡◌, ℕ, Bool, true, false, ◌&&◌, ◌||◌, List, [], ◌∷◌, Option, Some, None, refl, sym, ◌∙◌, ap, subst}
 use Rattle.std.specs.Prelude.{is_some, IsSomeAnd}
-use Rattle.std.specs.declared.cmp.Ordering.TheVariants.{Less}
 use Rattle.bisync_text.specs.Path.{IsLastPart}
 use Rattle.bisync_tree.specs.Side.{other}
 use Rattle.bisync_tree.specs.Rows.{PathBytes, Rows, keys, look, is_among, AreRising}
@@ -10,17 +9,16 @@ use Rattle.bisync_tree.specs.declared.entries.Entry.{Entry}
 use Rattle.bisync_tree.specs.declared.sides.Side.{Side}
 use Rattle.bisync_tree.specs.declared.sides.Side.TheVariants.{One, Two}
 use Rattle.bisync_tree.specs.declared.views.View.{View}
-use Rattle.bisync_tree.proofs.PathOrder.{order}
 use Rattle.bisync_tree.proofs.RisingLemmas.{here}
 use Rattle.bisync_guard.specs.declared.guards.Guard.{Guard}
 use Rattle.bisync_guard.specs.declared.guards.Guard.TheVariants.{CheckAccess, EmptyCurrent, TooManyDeletes, AllChanged}
-use Rattle.bisync_guard.specs.CheckFiles.{is_check_file, check_files, lacking_side, first_missing, missing_file}
+use Rattle.bisync_guard.specs.CheckFiles.{is_check_file, check_files, lacking_side, missing_file}
 use Rattle.bisync_guard.specs.Order.{check_access}
 use Rattle.bisync_guard.specs.Conditions.{now_of, IsFirstMissing, IsNowhere}
 use Rattle.bisync_guard.proofs.LastNames.{named, has_name}
 use Rattle.bisync_guard.proofs.Picks.{among-filter, rising-filter}
 use Rattle.bisync_guard.proofs.WalkedFiles.{rising_paths_now, among_paths_now}
-use Rattle.bisync_guard.proofs.FirstMissing.{IsFirstLacking, lacking_at, Finds, finds, found}
+use Rattle.bisync_guard.proofs.FirstMissing.{IsFirstLacking, lacking_at, finds, found}
 use Rattle.bisync_guard.proofs.Values.{both_of, guard_is}
 
 -- what the side that lacks a path says of it

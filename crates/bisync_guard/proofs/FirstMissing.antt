@@ -1,15 +1,15 @@
 -- The first path in byte order that one side lacks.
-use Rattle.std.proofs.Common.{◌≡◌, Bool, true, false, cond, ◌&&◌, ◌||◌, List, [], ◌∷◌, Option, Some, None, refl, sym, ◌∙◌, ap, subst}
+use Rattle.std.proofs.Common.{◌≡◌, Bool, true, false, ◌||◌, List, [], ◌∷◌, Option, Some, None, refl, sym, ◌∙◌, ap, subst}
 use Rattle.std.specs.Prelude.{bytes_eq, option_map}
 use Rattle.std.specs.Option.{option_or}
 use Rattle.std.specs.declared.cmp.Ordering.TheVariants.{Less}
 use Rattle.bisync_tree.specs.Rows.{PathBytes, Rows, look, is_among, AreAbove, AreRising}
 use Rattle.bisync_tree.specs.declared.sides.Side.{Side}
-use Rattle.bisync_tree.proofs.PathOrder.{order, path_is_itself, same_path, below_differs}
+use Rattle.bisync_tree.proofs.PathOrder.{order, same_path}
 use Rattle.bisync_tree.proofs.RisingLemmas.{above_trans, absent_below, here}
 use Rattle.bisync_guard.specs.declared.guards.Guard.{Guard}
 use Rattle.bisync_guard.specs.declared.guards.Guard.TheVariants.{CheckAccess}
-use Rattle.bisync_guard.specs.CheckFiles.{lacking_side, missing_at, first_missing}
+use Rattle.bisync_guard.specs.CheckFiles.{lacking_side, first_missing}
 use Rattle.bisync_guard.proofs.Picks.{among_later}
 use Rattle.bisync_guard.proofs.Values.{guard_is}
 

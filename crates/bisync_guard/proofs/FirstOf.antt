@@ -1,5 +1,5 @@
 -- The first of seven guards.
-use Rattle.std.proofs.Common.{◌≡◌, List, [], ◌∷◌, Option, Some, None, refl}
+use Rattle.std.proofs.Common.{◌≡◌, [], ◌∷◌, Option, Some, None, refl}
 use Rattle.std.specs.Option.{option_or}
 use Rattle.bisync_guard.specs.declared.guards.Guard.{Guard}
 use Rattle.bisync_guard.specs.Order.{first_of}

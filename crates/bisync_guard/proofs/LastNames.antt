@@ -1,5 +1,5 @@
 -- The last name of a path is what stands after its last slash.
-use Rattle.std.proofs.Common.{◌≡◌, ◌≢◌, ◌⊎◌, ℕ, ◌+◌, ◌-◌, ◌<◌, ◌≤◌, Bool, true, false, inl, inr, List, [], ◌∷◌, ◌++◌, length, get_or, take, drop, refl, sym, ◌∙◌, ap, subst, suc, arith, append_assoc, length-append}
+use Rattle.std.proofs.Common.{◌≡◌, ◌≢◌, ◌⊎◌, ℕ, ◌+◌, ◌-◌, ◌<◌, ◌≤◌, Bool, true, false, inl, inr, List, [], ◌∷◌, ◌++◌, length, get_or, drop, refl, sym, ◌∙◌, ap, subst, suc, arith, append_assoc, length-append}
 use Rattle.std.specs.Prelude.{All, bytes_eq, not, ◌==◌}
 use Rattle.std.specs.List.{after_last, suffix_len}
 use Rattle.std.proofs.Math.Dec.{eqb}
@@ -8,7 +8,6 @@ use Rattle.std.proofs.lemmas.List.{drop_at, get_or_at, get_or-append_right}
 use Rattle.std.proofs.lemmas.List.Sums.{suffix_len_is}
 use Rattle.std.proofs.lemmas.List.Elements.{All-cons, All-get_or}
 use Rattle.bisync_text.specs.Path.{IsLastPart}
-use Rattle.bisync_text.proofs.LastPart.{IsLastPart-unique}
 use Rattle.bisync_tree.proofs.PathOrder.{path_is_itself, same_path}
 use Rattle.bisync_guard.specs.CheckFiles.{is_check_file}
 

@@ -3,13 +3,12 @@ use Rattle.std.proofs.Common.{◌≡◌, ℕ, zero, suc, ◌+◌, ◌≤◌, ◌
 use Rattle.std.specs.Prelude.{slice_get}
 use Rattle.bisync_tree.specs.declared.entries.Compare.{Compare}
 use Rattle.bisync_tree.specs.declared.options.GuardRule.{GuardRule}
-use Rattle.bisync_tree.specs.declared.sides.Side.{Side}
 use Rattle.bisync_tree.specs.declared.sides.Side.TheVariants.{One, Two}
 use Rattle.bisync_tree.specs.declared.views.View.{View}
 use Rattle.bisync_guard.specs.declared.guards.Guard.{Guard}
 use Rattle.bisync_guard.specs.declared.guards.Guard.TheVariants.{CheckAccess, EmptyCurrent, TooManyDeletes, AllChanged}
-use Rattle.bisync_guard.specs.Order.{check_access, empty_current, guards_in_order, first_of, first_guard}
-use Rattle.bisync_guard.specs.Conditions.{IsGuard, place, base_of, now_of}
+use Rattle.bisync_guard.specs.Order.{empty_current, guards_in_order, first_of, first_guard}
+use Rattle.bisync_guard.specs.Conditions.{IsGuard, place}
 use Rattle.bisync_guard.proofs.CheckFileGuard.{IsAccess, access_sound, missing_found, nowhere_found}
 use Rattle.bisync_guard.proofs.CountGuards.{empty_sound, deletes_sound, deletes_complete, changes_sound, changes_complete}
 use Rattle.bisync_guard.proofs.Values.{guard_is}

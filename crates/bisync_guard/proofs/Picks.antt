@@ -1,7 +1,7 @@
 -- Paths picked out of rising paths.
-use Rattle.std.proofs.Common.{◌≡◌, Bool, true, false, cond, ◌&&◌, ◌||◌, not, List, [], ◌∷◌, map, ℕ, refl, sym, ◌∙◌, ap, subst}
+use Rattle.std.proofs.Common.{◌≡◌, Bool, true, false, cond, ◌&&◌, ◌||◌, not, List, [], ◌∷◌, refl, sym, ◌∙◌, ap}
 use Rattle.std.specs.Prelude.{bytes_eq, filter}
-use Rattle.std.specs.List.{list_all, count_by}
+use Rattle.std.specs.List.{list_all}
 use Rattle.bisync_tree.specs.Rows.{PathBytes, is_among, AreAbove, AreRising}
 use Rattle.bisync_tree.proofs.PathOrder.{same_path}
 use Rattle.bisync_tree.proofs.RisingLemmas.{rising_same}

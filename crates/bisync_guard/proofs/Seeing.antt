@@ -6,13 +6,10 @@ use Rattle.bisync_text.specs.declared.path.Path.{Path}
 use Rattle.bisync_tree.specs.Walk.{CellValue}
 use Rattle.bisync_tree.specs.declared.entries.Entry.{Entry}
 use Rattle.bisync_tree.specs.declared.sides.Side.{Side}
-use Rattle.bisync_tree.specs.declared.sides.Side.TheVariants.{One, Two}
-use Rattle.bisync_guard.specs.declared.guards.Guard.{Guard}
-use Rattle.bisync_guard.specs.declared.guards.Guard.TheVariants.{CheckAccess}
 use Rattle.bisync_guard.specs.declared.access.Access.{Access}
 use Rattle.bisync_guard.specs.declared.access.Access.TheVariants.{Unseen, Whole, Missing}
 use Rattle.bisync_guard.specs.CheckFiles.{is_check_file, missing_at}
-use Rattle.bisync_guard.specs.Tally.{guard_of, guard_after, first_missing_in, missing_file_in, is_check_cell, missing_in}
+use Rattle.bisync_guard.specs.Tally.{guard_of, guard_after, first_missing_in, missing_file_in}
 
 abbrev pub IsNotMissing : Access → Type 0
 IsNotMissing a = (side : Side) (path : Bor Path) → a ≡ Missing side path → ⊥

@@ -8,7 +8,6 @@ use Rattle.bisync_tree.specs.declared.entries.Entry.{Entry}
 use Rattle.bisync_tree.proofs.LookLemmas.{look_is_some}
 use Rattle.bisync_tree.proofs.RisingLemmas.{rising_withs, among_withs}
 use Rattle.bisync_tree.proofs.WalkLemmas.{among_paths, rising_paths}
-use Rattle.bisync_guard.specs.declared.guards.Guard.{Guard}
 use Rattle.bisync_guard.specs.CheckFiles.{is_check_file, check_files, missing_at, first_missing, missing_file}
 use Rattle.bisync_guard.specs.Tally.{first_missing_in, missing_file_in, is_check_cell}
 use Rattle.bisync_guard.proofs.Picks.{same_picks}

@@ -1,4 +1,4 @@
-use Rattle.std.proofs.Common.{◌≡◌, List, ◌∷◌, Some, None, Bool, true, false, refl, sym, ◌∙◌, ap}
+use Rattle.std.proofs.Common.{Some, None, refl, sym, ◌∙◌, ap}
 use Rattle.std.specs.Prelude.{bytes_eq, option_copied}
 use Rattle.bisync_tree.specs.Walk.{seen}
 use Rattle.bisync_guard.proofs.LastNames.{check_file_is}

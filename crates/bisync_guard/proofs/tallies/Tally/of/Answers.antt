@@ -1,9 +1,6 @@
-use Rattle.std.proofs.Common.{◌≡◌, List, [], ℕ, Some, refl, sym, ◌∙◌, ap, subst}
-use Rattle.std.specs.Prelude.{option_copied}
-use Rattle.bisync_tree.specs.Walk.{seen, listings_of, cells}
-use Rattle.bisync_guard.specs.declared.access.Access.TheVariants.{Unseen}
-use Rattle.bisync_guard.specs.CheckFiles.{check_files, missing_file}
-use Rattle.bisync_guard.specs.Tally.{guard_of, guard_after, missing_file_in}
+use Rattle.std.proofs.Common.{sym, ◌∙◌, ap, subst}
+use Rattle.bisync_tree.specs.Walk.{seen, listings_of}
+use Rattle.bisync_guard.specs.Tally.{guard_after, missing_file_in}
 use Rattle.bisync_guard.proofs.Counting.{AreSoFar, gone_fits, kept_fits, start_one, start_two}
 use Rattle.bisync_guard.proofs.Seeing.{at_end, if_some}
 use Rattle.bisync_guard.proofs.WalkedFiles.{files_walked}
