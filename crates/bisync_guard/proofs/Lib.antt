@@ -1,0 +1,12 @@
+pub mod Values
+pub mod LastNames
+pub mod Seeing
+pub mod Picks
+pub mod WalkedPaths
+pub mod WalkedFiles
+pub mod Counting
+pub mod FirstOf
+pub mod FirstMissing
+pub mod CountGuards
+pub mod CheckFileGuard
+pub mod OrderOfGuards

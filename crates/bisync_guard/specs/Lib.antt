@@ -1,0 +1,5 @@
+pub mod CheckFiles
+pub mod BasePaths
+pub mod Order
+pub mod Conditions
+pub mod Tally
