@@ -1,0 +1,25 @@
+//! Laws on steps. Each is the contract of a function that does nothing.
+
+ghost use Rattle.std.specs.Prelude.{◌≡◌, ◌+◌, Bool, IsTrue, Result};
+ghost use Rattle.bisync_device.specs.Remote.{RemoteState};
+ghost use Rattle.bisync_model.specs.Changes.{changes_of};
+ghost use Rattle.bisync_transfer.specs.StepEffect.{Performs, IsDone};
+ghost use Rattle.bisync_transfer.specs.StepTrees.{Leaves};
+
+use crate::StepFault;
+use bisync_tree::{Side, Step};
+
+/// Where both remotes tell what they hold, a step leaves its effect in the two trees, and its
+/// changes are counted; or trees and counts are as they were, which they are after `Moved`.
+pub fn a_step_leaves_its_effect_or_nothing()
+    ensures { (tells : Side → Bool) (step : Step) (before after : Side → RemoteState) (answer : Result (Unit {0}) StepFault) →
+        IsTrue (tells Side.One) → IsTrue (tells Side.Two) →
+        Performs tells step before after answer → Leaves step before after answer }
+{}
+
+/// Each side that tells counts the changes of a step that was done.
+pub fn a_step_done_counts_its_changes()
+    ensures { (tells : Side → Bool) (step : Step) (before after : Side → RemoteState) →
+        IsDone tells step before after → (side : Side) → IsTrue (tells side) →
+        (after side).changes ≡ (before side).changes + changes_of side step }
+{}
