@@ -42,13 +42,16 @@ pub record IsMisread (tells : Bool) (path : PathBytes) (listed read : Entry) (fr
   pub differs : (read.size ≢ listed.size) ⊎ (read.hash ≢ listed.hash)
   pub source : IsTrue tells → (more : List ℕ) × HasBytes from path (bytes ++ more) × (length bytes ≤ listed.size → more ≡ [])
 
--- the file isn't there, or has more bytes than can be counted
-abbrev pub IsUnreadable : PathBytes → RemoteState → Type 0
-IsUnreadable path from = (file_at from.tree path ≡ None) ⊎ ((bytes : List ℕ) × HasBytes from path bytes × (2 ^ 64 ≤ length bytes))
+-- the file has more bytes than can be counted, and so more than listed
+pub record IsTooLarge (path : PathBytes) (listed : Entry) (from : RemoteState) : Type 0 where
+  pub bytes : List ℕ
+  pub there : HasBytes from path bytes
+  pub uncounted : 2 ^ 64 ≤ length bytes
+  pub longer : listed.size < length bytes
 
--- what was read of a file that isn't as listed
+-- what was read of a file that isn't as listed: nothing, where it isn't there or is too large
 abbrev pub IsMoved : Bool → PathBytes → Entry → RemoteState → Option Entry → Type 0
-IsMoved tells path listed from None = IsTrue tells → IsUnreadable path from
+IsMoved tells path listed from None = IsTrue tells → (file_at from.tree path ≡ None) ⊎ IsTooLarge path listed from
 IsMoved tells path listed from (Some read) = IsMisread tells path listed read from
 
 abbrev pub is_source : {T : Type 0} → Result T CopyFault → Bool
