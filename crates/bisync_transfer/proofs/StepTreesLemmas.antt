@@ -1,5 +1,7 @@
 -- What a step leaves in the two trees of a run.
-use Rattle.std.proofs.Common.{◌≡◌, ◌+◌, Bool, IsTrue, List, ℕ, Option, Some, None, Result, Ok, Err, inl, inr, refl, sym, ap, ◌∙◌, add-zero}
+use Rattle.std.proofs.Common.{◌≡◌, ◌+◌, Bool, IsTrue, List, ℕ, Option, Some, None, Result, Ok, Err, inl, inr, refl, sym, ap, ◌∙◌, subst, ◌≢◌, ◌++◌, [], ◌∷◌, add-zero, add_assoc, zero-add, sum_by}
+use Rattle.std.proofs.Common.{arith}
+use Rattle.std.proofs.lemmas.Grind.{common_steps}
 use Rattle.std.specs.Option.{option_map_or}
 use Rattle.bisync_tree.specs.Rows.{PathBytes}
 use Rattle.bisync_tree.specs.Tree.{Tree, file_at, put, without, brought}
@@ -12,12 +14,12 @@ use Rattle.bisync_tree.specs.declared.steps.Step.{Step}
 use Rattle.bisync_tree.specs.declared.steps.Step.TheVariants.{Copy, Rename, Delete}
 use Rattle.bisync_device.specs.Remote.{RemoteState, renamed}
 use Rattle.bisync_model.specs.Trees.{Trees, SameTrees, trees_of, put_at, by_side}
-use Rattle.bisync_model.specs.Effects.{effect, with_copy, with_rename}
+use Rattle.bisync_model.specs.Effects.{effect, with_copy, with_rename, after as after_steps}
 use Rattle.bisync_model.specs.Changes.{changes_of}
 use Rattle.bisync_model.proofs.TreesOfDevices.{same_is_equal, put_one, put_two, without_one, without_two}
 use Rattle.bisync_transfer.specs.FileCopy.{HasBytes, copied}
 use Rattle.bisync_transfer.specs.StepEffect.{Performs, IsDone, IsUndone}
-use Rattle.bisync_transfer.specs.StepTrees.{trees_in, windows_in, HasEffect, HasNoEffect, Leaves}
+use Rattle.bisync_transfer.specs.StepTrees.{trees_in, windows_in, HasEffect, HasNoEffect, Leaves, AreDone, KeepsWindows, GoesOn}
 use Rattle.bisync_transfer.specs.declared.steps.StepFault.{StepFault}
 use Rattle.bisync_transfer.specs.declared.steps.StepFault.TheVariants.{RemoteFault, Moved}
 
@@ -99,5 +101,45 @@ module _ (tells : Side → Bool) (before after : Side → RemoteState) (one : Is
 
   pub leaves : (step : Step) (answer : Result (Unit {0}) StepFault) → Performs tells step before after answer → Leaves step before after answer
   leaves step (Ok ok) d = done step d
-  leaves step (Err (RemoteFault side)) d = elim d [ inl u ↦ inl (undone u) | inr f ↦ inr (f.unstopped, done step f.done) ]
+  leaves step (Err (RemoteFault side)) d = elim d [ inl u ↦ inl (undone u) | inr f ↦ inr (f.0, subst (λ s. (before s).left ≢ Some 0) (sym f.0) f.1.changed_unstopped, done step f.1) ]
   leaves step (Err (Moved side listed read)) u = undone u
+
+windows_are : (start now : Side → RemoteState) → ((side : Side) → (now side).window ≡ (start side).window) → windows_in now ≡ windows_in start
+windows_are start now same = ap (λ w. by_side w (now Two).window) (same One) ∙ ap (λ w. by_side (start One).window w) (same Two)
+
+after_more : (window : Side → Window) (steps : List Step) (step : Step) (trees : Trees)
+    → after_steps window (steps ++ step ∷ []) trees ≡ effect window step (after_steps window steps trees)
+after_more window [] step trees = refl
+after_more window (first ∷ rest) step trees = after_more window rest step (effect window first trees)
+
+sum_more : (f : Step → ℕ) (steps : List Step) (step : Step) → sum_by f (steps ++ step ∷ []) ≡ sum_by f steps + f step
+sum_more f steps step = grind (arith, common_steps)
+
+pub none_done : (start : Side → RemoteState) → AreDone [] start start
+none_done start = record { windows = λ side. refl; trees = λ side p. refl; changes = λ side. sym (add-zero (start side).changes) }
+
+module _ (steps : List Step) (step : Step) (start before after : Side → RemoteState) (so_far : AreDone steps start before) (windows : KeepsWindows before after) where
+  -- one step more, or none
+  more_done : HasEffect step before after → AreDone (steps ++ step ∷ []) start after
+  more_done e = record {
+    windows = λ side. windows side ∙ so_far.windows side;
+    trees = same_along _ _ _ _ refl e.trees
+        (ap (λ w. effect w step (trees_in before)) (windows_are start before so_far.windows)
+        ∙ ap (λ t. effect (windows_in start) step t) (same_is_equal _ _ so_far.trees)
+        ∙ sym (after_more (windows_in start) steps step (trees_in start)));
+    changes = λ side. e.changes side ∙ ap (λ n. n + changes_of side step) (so_far.changes side)
+        ∙ add_assoc (start side).changes (sum_by (changes_of side) steps) (changes_of side step)
+        ∙ ap (λ n. (start side).changes + n) (sym (sum_more (changes_of side) steps step));
+  }
+
+  same_done : HasNoEffect before after → AreDone steps start after
+  same_done e = record {
+    windows = λ side. windows side ∙ so_far.windows side;
+    trees = λ side p. e.trees side p ∙ so_far.trees side p;
+    changes = λ side. e.changes side ∙ so_far.changes side;
+  }
+
+  pub goes_on : (answer : Result (Unit {0}) StepFault) → Leaves step before after answer → GoesOn steps step start after answer
+  goes_on (Ok ok) e = more_done e
+  goes_on (Err (RemoteFault side)) e = elim e [ inl u ↦ inl (same_done u) | inr f ↦ inr (more_done f.2) ]
+  goes_on (Err (Moved side listed read)) e = same_done e

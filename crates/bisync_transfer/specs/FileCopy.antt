@@ -28,8 +28,10 @@ HasListed state path listed = (file : File) × (file_at state.tree path ≡ Some
 abbrev pub copied : RemoteState → PathBytes → Entry → List ℕ → Tree
 copied state path listed bytes = put state.tree path (brought state.window (record { bytes = bytes; time = listed.time }))
 
--- the copy was made: of bytes that are as listed, and are those of the source
+-- the copy was made: of bytes that are as listed, and are those of the source. Neither remote had stopped
 pub record Copies (from_tells to_tells : Bool) (path : PathBytes) (listed : Entry) (from to after : RemoteState) : Type 0 where
+  pub from_unstopped : from.left ≢ Some 0
+  pub to_unstopped : to.left ≢ Some 0
   pub bytes : List ℕ
   pub listed_bytes : IsListed listed bytes
   pub source : IsTrue from_tells → HasBytes from path bytes
@@ -66,12 +68,12 @@ is_destination (Err Source) = false
 is_destination (Err Destination) = true
 is_destination (Err (Moved _)) = false
 
--- what each answer of a copy leaves on the destination, and why it comes. After the stop nothing is done
+-- what each answer of a copy leaves on the destination, and why it comes
 abbrev pub CopyEffect : Bool → Bool → PathBytes → Entry → RemoteState → RemoteState → RemoteState → Result (Unit {0}) CopyFault → Type 0
 CopyEffect from_tells to_tells path listed from to after (Ok _) = Copies from_tells to_tells path listed from to after
 CopyEffect from_tells to_tells path listed from to after (Err Source) = KeepsTree to_tells to after
 CopyEffect from_tells to_tells path listed from to after (Err Destination) =
-    KeepsTree to_tells to after ⊎ ((to.left ≢ Some 0) × Copies from_tells to_tells path listed from to after)
+    KeepsTree to_tells to after ⊎ Copies from_tells to_tells path listed from to after
 CopyEffect from_tells to_tells path listed from to after (Err (Moved read)) = KeepsTree to_tells to after × IsMoved from_tells path listed from read
 
 -- the bytes read are more than listed, or more than can be counted
@@ -89,3 +91,11 @@ Streams from_tells to_tells listed from to after (Err Destination) = ⊤
 Streams from_tells to_tells listed from to after (Err (Moved read)) =
     (bytes : List ℕ) × (listed.size < length bytes) × IsLonger listed bytes read
     × (IsTrue from_tells → (more : List ℕ) × (from.reading.rest ≡ bytes ++ more))
+
+-- what was read of a file that isn't as listed has at most this many bytes
+abbrev pub ReadsAtMost : {T : Type 0} → ℕ → Result T CopyFault → Type 0
+ReadsAtMost most (Ok _) = ⊤
+ReadsAtMost most (Err Source) = ⊤
+ReadsAtMost most (Err Destination) = ⊤
+ReadsAtMost most (Err (Moved None)) = ⊤
+ReadsAtMost most (Err (Moved (Some read))) = read.size ≤ most

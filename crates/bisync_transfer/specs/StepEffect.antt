@@ -1,5 +1,5 @@
 -- What a step leaves on the two remotes, by its answer.
-use Rattle.std.specs.Prelude.{◌≡◌, ◌≢◌, ◌⊎◌, Bool, true, false, IsTrue, Option, Some, None, IsSome, Result, Ok, Err, ⊤}
+use Rattle.std.specs.Prelude.{◌≡◌, ◌≢◌, ◌⊎◌, ◌+◌, ◌≤◌, ℕ, Bool, true, false, IsTrue, Option, Some, None, IsSome, Result, Ok, Err, ⊤}
 use Rattle.bisync_tree.specs.Side.{other, is_side}
 use Rattle.bisync_tree.specs.Rows.{PathBytes}
 use Rattle.bisync_tree.specs.Tree.{file_at, without}
@@ -59,8 +59,10 @@ IsStepChange tells (Rename side from to listed) before after =
 IsStepChange tells (Delete side path listed) before after =
     IsTrue (tells side) → Changed (before side) after (without (before side).tree path) (has_folder (before side).folders)
 
--- the step was done, and nothing else. Of each side it says what that side's remote tells
+-- the step was done, and nothing else, on remotes that had not stopped. Of each side it says what that side's remote tells
 pub record IsDone (tells : Side → Bool) (step : Step) (before after : Side → RemoteState) : Type 0 where
+  pub source_unstopped : (before (source_of step)).left ≢ Some 0
+  pub changed_unstopped : (before (changed_side step)).left ≢ Some 0
   pub source : IsTrue (tells (source_of step)) → HasStepFile step (before (source_of step))
   pub kept : KeepsTree (tells (kept_side step)) (before (kept_side step)) (after (kept_side step))
   pub change : IsStepChange tells step before (after (changed_side step))
@@ -69,16 +71,10 @@ pub record IsDone (tells : Side → Bool) (step : Step) (before after : Side →
 abbrev pub IsUndone : (Side → Bool) → (Side → RemoteState) → (Side → RemoteState) → Type 0
 IsUndone tells before after = (side : Side) → KeepsTree (tells side) (before side) (after side)
 
--- a fault of the side that the step changes can have come with the step done, but not after the stop
-pub record IsDoneInFault (tells : Side → Bool) (step : Step) (before after : Side → RemoteState) (side : Side) : Type 0 where
-  pub changed : side ≡ changed_side step
-  pub unstopped : (before side).left ≢ Some 0
-  pub done : IsDone tells step before after
-
--- what each answer leaves on both sides
+-- what each answer leaves on both sides. A fault of the side that the step changes can come with the step done
 abbrev pub Performs : (Side → Bool) → Step → (Side → RemoteState) → (Side → RemoteState) → Result (Unit {0}) StepFault → Type 0
 Performs tells step before after (Ok _) = IsDone tells step before after
-Performs tells step before after (Err (RemoteFault side)) = IsUndone tells before after ⊎ IsDoneInFault tells step before after side
+Performs tells step before after (Err (RemoteFault side)) = IsUndone tells before after ⊎ ((side ≡ changed_side step) × IsDone tells step before after)
 Performs tells step before after (Err (Moved side listed read)) = IsUndone tells before after
 
 -- a rename or a delete makes no call on the other side
@@ -105,3 +101,10 @@ TellsMoved tells step before (Ok _) = ⊤
 TellsMoved tells step before (Err (RemoteFault side)) = ⊤
 TellsMoved tells step before (Err (Moved side listed read)) =
     (side ≡ source_of step) × (listed ≡ listed_of step) × IsReadOf (tells side) step (before side) read
+
+-- what was read of a file that isn't as listed is at most this many bytes longer than listed
+abbrev pub ReadsPastBy : ℕ → Result (Unit {0}) StepFault → Type 0
+ReadsPastBy room (Ok _) = ⊤
+ReadsPastBy room (Err (RemoteFault side)) = ⊤
+ReadsPastBy room (Err (Moved side listed None)) = ⊤
+ReadsPastBy room (Err (Moved side listed (Some read))) = read.size ≤ listed.size + room

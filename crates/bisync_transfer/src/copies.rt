@@ -1,7 +1,7 @@
-ghost use Rattle.std.specs.Prelude.{◌≡◌, ◌<◌, [], length, true, IsTrue};
+ghost use Rattle.std.specs.Prelude.{◌≡◌, ◌+◌, ◌<◌, [], length, true, IsTrue};
 ghost use Rattle.bisync_device.specs.Remote.{KeepsTree};
 ghost use Rattle.bisync_transfer.specs.CallsMade.{MadeCalls};
-ghost use Rattle.bisync_transfer.specs.FileCopy.{CopyEffect, Streams, is_source, is_destination};
+ghost use Rattle.bisync_transfer.specs.FileCopy.{CopyEffect, ReadsAtMost, Streams, is_source, is_destination};
 
 use crate::tallies::Tally;
 use bisync_device::{Failed, Remote};
@@ -33,6 +33,7 @@ pub fn copy_file<A: Remote, B: Remote>(
     ensures kept { KeepsTree A.tells (A.state from.old) (A.state from.new) }
     ensures effect { CopyEffect A.tells B.tells path.now listed.now
         (A.state from.old) (B.state to.old) (B.state to.new) result }
+    ensures limit { ReadsAtMost (listed.now.size + length buffer.old) result }
 {
     match from.open(path) {
         Ok(true) => {}
@@ -74,6 +75,7 @@ fn stream<A: Remote, B: Remote>(
     ensures destination_tree { KeepsTree B.tells (B.state to.old) (B.state to.new) }
     ensures streams { Streams A.tells B.tells listed.now
         (A.state from.old) (B.state to.old) (B.state to.new) result }
+    ensures limit { ReadsAtMost (listed.now.size + length buffer.old) result }
 {
     let size = listed.size;
     let mut tally = Tally::new(listed);

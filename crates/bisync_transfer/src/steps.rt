@@ -1,7 +1,7 @@
 ghost use Rattle.std.specs.Prelude.{◌≡◌, ◌<◌, length, IsTrue};
 ghost use Rattle.bisync_model.specs.Trees.{by_side};
 ghost use Rattle.bisync_transfer.specs.CallsMade.{MadeCalls};
-ghost use Rattle.bisync_transfer.specs.StepEffect.{Performs, LeavesOther, HasStepFile, IsMovedUnless, TellsMoved, is_fault_of, source_of};
+ghost use Rattle.bisync_transfer.specs.StepEffect.{Performs, LeavesOther, HasStepFile, IsMovedUnless, TellsMoved, ReadsPastBy, is_fault_of, source_of};
 ghost use Rattle.bisync_transfer.specs.StepAnswer.{copy_answer, change_answer};
 
 use crate::copies::{CopyFault, copy_file};
@@ -43,6 +43,7 @@ pub fn perform<A: Remote, B: Remote>(
         IsMovedUnless (HasStepFile step.now (by_side (A.state one.old) (B.state two.old) (source_of step.now))) result }
     ensures moved { TellsMoved (by_side A.tells B.tells) step.now
         (by_side (A.state one.old) (B.state two.old)) result }
+    ensures limit { ReadsPastBy (length buffer.old) result }
 {
     match step {
         Step::Copy { from, path, entry } => match from {
