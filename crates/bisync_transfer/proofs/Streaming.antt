@@ -62,21 +62,23 @@ pub ended : (from_tells to_tells : Bool) (path : PathBytes) (listed : Entry) (fr
     → Streams from_tells to_tells listed opened begun after (Err fault) → CopyEffect from_tells to_tells path listed from to after (Err fault)
 ended from_tells to_tells path listed from opened to begun after Source file first then s = kept_along to_tells to begun after first then
 ended from_tells to_tells path listed from opened to begun after Destination file first then s = inl (kept_along to_tells to begun after first then)
-ended from_tells to_tells path listed from opened to begun after (Moved None) file first then s =
-    ( kept_along to_tells to begun after first then
-    , λ t. let more = s.3 t in
-        inr (record {
-          bytes = s.0 ++ more.0;
-          there = has_bytes path from opened.reading.rest (s.0 ++ more.0) (file t) more.1;
-          uncounted = at_most s.0 more.0 _ s.2;
-          longer = longer_still s.0 more.0 _ s.1;
-        }) )
-ended from_tells to_tells path listed from opened to begun after (Moved (Some read)) file first then s =
-    ( kept_along to_tells to begun after first then
-    , record {
-        bytes = s.0;
-        entry = s.2;
-        differs = inl (λ e. other_size (length s.0) listed.size s.1 (sym (ap (λ (r : Entry). r.size) s.2) ∙ e));
-        source = λ t. let more = s.3 t in
-            (more.0, has_bytes path from opened.reading.rest (s.0 ++ more.0) (file t) more.1, λ le. too_long (length s.0) listed.size _ s.1 le);
-      } )
+ended from_tells to_tells path listed from opened to begun after (Moved None) file first then s = (
+  kept_along to_tells to begun after first then,
+  λ t. let more = s.3 t in
+      inr (record {
+        bytes = s.0 ++ more.0;
+        there = has_bytes path from opened.reading.rest (s.0 ++ more.0) (file t) more.1;
+        uncounted = at_most s.0 more.0 _ s.2;
+        longer = longer_still s.0 more.0 _ s.1;
+      }),
+)
+ended from_tells to_tells path listed from opened to begun after (Moved (Some read)) file first then s = (
+  kept_along to_tells to begun after first then,
+  record {
+    bytes = s.0;
+    entry = s.2;
+    differs = inl (λ e. other_size (length s.0) listed.size s.1 (sym (ap (λ (r : Entry). r.size) s.2) ∙ e));
+    source = λ t. let more = s.3 t in
+        (more.0, has_bytes path from opened.reading.rest (s.0 ++ more.0) (file t) more.1, λ le. too_long (length s.0) listed.size _ s.1 le);
+  },
+)

@@ -1,7 +1,8 @@
 ghost use Rattle.std.specs.Prelude.{◌≡◌, ◌<◌, length, IsTrue};
 ghost use Rattle.bisync_model.specs.Trees.{by_side};
 ghost use Rattle.bisync_transfer.specs.CallsMade.{MadeCalls};
-ghost use Rattle.bisync_transfer.specs.StepEffect.{Performs, LeavesOther, HasStepFile, IsMovedUnless, TellsMoved, ReadsPastBy, is_fault_of, source_of};
+ghost use Rattle.bisync_transfer.specs.StepEffect.{Performs, LeavesOther, is_fault_of, source_of};
+ghost use Rattle.bisync_transfer.specs.StepEffect.{HasStepFile, IsMovedUnless, TellsMoved, ReadsPastBy};
 ghost use Rattle.bisync_transfer.specs.StepAnswer.{copy_answer, change_answer};
 
 use crate::copies::{CopyFault, copy_file};
@@ -38,11 +39,14 @@ pub fn perform<A: Remote, B: Remote>(
     ensures other { LeavesOther step.now
         (by_side (A.state one.old) (B.state two.old)) (by_side (A.state one.new) (B.state two.new)) }
     ensures effect { Performs (by_side A.tells B.tells) step.now
-        (by_side (A.state one.old) (B.state two.old)) (by_side (A.state one.new) (B.state two.new)) result }
+        (by_side (A.state one.old) (B.state two.old)) (by_side (A.state one.new) (B.state two.new))
+        result }
     ensures exact { IsTrue (by_side A.tells B.tells (source_of step.now)) →
-        IsMovedUnless (HasStepFile step.now (by_side (A.state one.old) (B.state two.old) (source_of step.now))) result }
+        IsMovedUnless (HasStepFile step.now
+        (by_side (A.state one.old) (B.state two.old) (source_of step.now))) result }
     ensures moved { TellsMoved (by_side A.tells B.tells) step.now
         (by_side (A.state one.old) (B.state two.old)) result }
+    // A copy ends with the read that goes past the listed size.
     ensures limit { ReadsPastBy (length buffer.old) result }
 {
     match step {
@@ -50,7 +54,12 @@ pub fn perform<A: Remote, B: Remote>(
             Side::One => answer_copy(Side::One, entry, copy_file(path, entry, one, two, buffer)),
             Side::Two => answer_copy(Side::Two, entry, copy_file(path, entry, two, one, buffer)),
         },
-        Step::Rename { side, from, to, entry } => match side {
+        Step::Rename {
+            side,
+            from,
+            to,
+            entry,
+        } => match side {
             Side::One => answer_change(Side::One, entry, one.rename(from, to)),
             Side::Two => answer_change(Side::Two, entry, two.rename(from, to)),
         },
