@@ -1,5 +1,5 @@
 -- What a step leaves in the two trees of a run.
-use Rattle.std.proofs.Common.{◌≡◌, ◌+◌, Bool, IsTrue, List, ℕ, Option, Some, None, Result, Ok, Err, inl, inr, refl, sym, ap, ◌∙◌, subst, ◌≢◌, ◌++◌, [], ◌∷◌, add-zero, add_assoc, zero-add, sum_by}
+use Rattle.std.proofs.Common.{◌≡◌, ◌+◌, Bool, IsTrue, List, ℕ, Option, Some, None, Result, Ok, Err, inl, inr, refl, sym, ap, ◌∙◌, subst, ◌≢◌, ◌++◌, [], ◌∷◌, add-zero, add_assoc, sum_by}
 use Rattle.std.proofs.Common.{arith}
 use Rattle.std.proofs.lemmas.Grind.{common_steps}
 use Rattle.std.specs.Option.{option_map_or}
@@ -12,12 +12,11 @@ use Rattle.bisync_tree.specs.declared.entries.Entry.{Entry}
 use Rattle.bisync_tree.specs.declared.files.File.{File}
 use Rattle.bisync_tree.specs.declared.steps.Step.{Step}
 use Rattle.bisync_tree.specs.declared.steps.Step.TheVariants.{Copy, Rename, Delete}
-use Rattle.bisync_device.specs.Remote.{RemoteState, renamed}
+use Rattle.bisync_device.specs.Remote.{RemoteState}
 use Rattle.bisync_model.specs.Trees.{Trees, SameTrees, trees_of, put_at, by_side}
 use Rattle.bisync_model.specs.Effects.{effect, with_copy, with_rename, after as after_steps}
 use Rattle.bisync_model.specs.Changes.{changes_of}
 use Rattle.bisync_model.proofs.TreesOfDevices.{same_is_equal, put_one, put_two, without_one, without_two}
-use Rattle.bisync_transfer.specs.FileCopy.{HasBytes, copied}
 use Rattle.bisync_transfer.specs.StepEffect.{Performs, IsDone, IsUndone}
 use Rattle.bisync_transfer.specs.StepTrees.{trees_in, windows_in, HasEffect, HasNoEffect, Leaves, AreDone, KeepsWindows, GoesOn}
 use Rattle.bisync_transfer.specs.declared.steps.StepFault.{StepFault}

@@ -1,5 +1,5 @@
 -- What any number of calls does to a remote.
-use Rattle.std.specs.Prelude.{◌≡◌, Bool, Option, Some, None}
+use Rattle.std.specs.Prelude.{◌≡◌, Bool, Some, None}
 use Rattle.bisync_device.specs.Faults.{HasCause}
 use Rattle.bisync_device.specs.Remote.{RemoteState}
 

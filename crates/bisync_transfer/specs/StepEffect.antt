@@ -1,7 +1,6 @@
 -- What a step leaves on the two remotes, by its answer.
-use Rattle.std.specs.Prelude.{◌≡◌, ◌≢◌, ◌⊎◌, ◌+◌, ◌≤◌, ℕ, Bool, true, false, IsTrue, Option, Some, None, IsSome, Result, Ok, Err, ⊤}
+use Rattle.std.specs.Prelude.{◌≡◌, ◌≢◌, ◌⊎◌, ◌+◌, ◌≤◌, ℕ, Bool, false, IsTrue, Option, Some, None, IsSome, Result, Ok, Err, ⊤}
 use Rattle.bisync_tree.specs.Side.{other, is_side}
-use Rattle.bisync_tree.specs.Rows.{PathBytes}
 use Rattle.bisync_tree.specs.Tree.{file_at, without}
 use Rattle.bisync_tree.specs.declared.sides.Side.{Side}
 use Rattle.bisync_tree.specs.declared.entries.Entry.{Entry}

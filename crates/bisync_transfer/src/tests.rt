@@ -211,6 +211,11 @@ fn tells_the_side_whose_call_failed(rt: HostRuntime) -> Result<(), Fail> {
             );
         }
     }
+    Ok(())
+}
+
+#[test]
+fn tells_the_side_of_a_failed_change(rt: HostRuntime) -> Result<(), Fail> {
     for side in [Side::One, Side::Two] {
         for done in [false, true] {
             let mut pair = Pair::new(rt.alloc());

@@ -1,4 +1,4 @@
-use Rattle.std.proofs.Common.{◌≡◌, ◌<◌, ◌++◌, length, take, true, arith}
+use Rattle.std.proofs.Common.{◌<◌, ◌++◌, length, take, arith}
 use Rattle.bisync_transfer.proofs.Streaming.{longer}
 use Rattle.bisync_transfer.proofs.copies.stream.Goals as goal
 
