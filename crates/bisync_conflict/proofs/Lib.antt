@@ -1,0 +1,3 @@
+pub mod CellLosers
+mod SetsOfNames
+mod FreeCandidates
