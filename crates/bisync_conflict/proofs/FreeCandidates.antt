@@ -80,3 +80,8 @@ next_is_free conflict side p taken count is small before = go (is_among (candida
         = room (count + 1) (candidate_of conflict side p) (λ j k h i. candidates_apart conflict side p j k h (omega arith)) taken
         (below_more (λ k. is_among (candidate_of conflict side p k) taken ≡ true) count before e) in
         absurd (omega arith)
+
+-- what a search that came to a place with nothing free before it found there
+pub first_at : (candidates : ℕ → PathBytes) (taken : List PathBytes) (place : ℕ) (name : PathBytes) → name ≡ candidates place → is_among name taken ≡ false
+    → ((k : ℕ) → k < place → is_among (candidates k) taken ≡ true) → IsFirst candidates taken name
+first_at candidates taken place name is free before = record { place = place; is = is; free = free; first = before }

@@ -1,3 +1,6 @@
 pub mod CellLosers
-mod SetsOfNames
-mod FreeCandidates
+pub mod SetsOfNames
+pub mod FreeCandidates
+pub mod LongerPaths
+pub mod CandidatePaths
+pub mod NamesSoFar

@@ -17,13 +17,19 @@ pub is_among-append : (n : PathBytes) (xs ys : List PathBytes) → is_among n (x
 is_among-append n [] ys = refl
 is_among-append n (x ∷ xs) ys = ap (λ b. bytes_eq n x || b) (is_among-append n xs ys) ∙ or_assoc (bytes_eq n x) (is_among n xs) (is_among n ys)
 
--- of the texts of a set and those of four lists
-pub is_among-five : (n : PathBytes) (a b c d e : List PathBytes)
-    → is_among n (a ++ (b ++ (c ++ (d ++ e)))) ≡ (is_among n a || (is_among n b || (is_among n c || (is_among n d || is_among n e))))
-is_among-five n a b c d e =
-    is_among-append n a (b ++ (c ++ (d ++ e)))
-    ∙ ap (λ t. is_among n a || t) (is_among-append n b (c ++ (d ++ e))
-    ∙ ap (λ t. is_among n b || t) (is_among-append n c (d ++ e) ∙ ap (λ t. is_among n c || t) (is_among-append n d e)))
+pub is_among-four : (n : PathBytes) (a b c d : List PathBytes)
+    → is_among n ((a ++ b) ++ (c ++ d)) ≡ (is_among n a || (is_among n b || (is_among n c || is_among n d)))
+is_among-four n a b c d =
+    is_among-append n (a ++ b) (c ++ d)
+    ∙ (λ i. is_among-append n a b i || is_among-append n c d i)
+    ∙ sym (or_assoc (is_among n a) (is_among n b) (is_among n c || is_among n d))
+
+-- what a test of the first list, and then of the second one, says of both
+pub first_holds : (n : PathBytes) (xs ys : List PathBytes) → is_among n xs ≡ true → true ≡ is_among n (xs ++ ys)
+first_holds n xs ys e = sym (is_among-append n xs ys ∙ ap (λ b. b || is_among n ys) e)
+
+pub second_decides : (n : PathBytes) (xs ys : List PathBytes) (b : Bool) → is_among n xs ≡ false → b ≡ is_among n ys → b ≡ is_among n (xs ++ ys)
+second_decides n xs ys b e f = f ∙ sym (is_among-append n xs ys ∙ ap (λ b. b || is_among n ys) e)
 
 or_swap : (a b : Bool) → (a || (b || false)) ≡ (b || a)
 or_swap true true = refl

@@ -19,7 +19,7 @@ candidate_of conflict side p k = candidate_by conflict.loser (suffix_of conflict
 
 -- every name that a tree or a full base listing has
 abbrev pub view_names : View → List PathBytes
-view_names view = view.names1 ++ (view.names2 ++ (keys view.prior1 ++ keys view.prior2))
+view_names view = (view.names1 ++ view.names2) ++ (keys view.prior1 ++ keys view.prior2)
 
 -- of these candidates the first that isn't taken
 pub record IsFirst (candidates : ℕ → PathBytes) (taken : List PathBytes) (name : PathBytes) : Type 0 where

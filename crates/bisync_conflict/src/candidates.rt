@@ -1,6 +1,8 @@
 //! The candidates for the name of a loser.
 
-ghost use Rattle.std.specs.Prelude.{◌≡◌, ◌++◌, ◌<◌, ◌^◌, decimal, OnOk, IfOk};
+ghost use Rattle.std.specs.Prelude.{◌≡◌, ◌++◌, ◌<◌, ◌≤◌, ◌^◌, length, decimal, OnOk, IfOk};
+ghost use Rattle.bisync_text.specs.Path.{IsPath};
+ghost use Rattle.bisync_tree.specs.Ranges.{HasSuffixes};
 ghost use Rattle.bisync_model.specs.Names.{mark, conflict_suffix};
 ghost use Rattle.bisync_conflict.specs.Naming.{suffix_of, candidate_of};
 
@@ -9,7 +11,8 @@ use bisync_tree::{ConflictRule, Loser, Side};
 use itoa::Buffer;
 use std::alloc::Global;
 
-/// The candidate at a place, counted from 0, for the name of the side's file at a path.
+/// The candidate at a place, counted from 0, for the name of the side's file at a path. It
+/// is a path, where it isn't too long.
 pub(crate) fn candidate(
     alloc: Global,
     conflict: &ConflictRule,
@@ -17,8 +20,10 @@ pub(crate) fn candidate(
     path: &Path,
     place: u128,
 ) -> Result<Vec<u8>, OutOfMemory>
-    requires { place < 2 ^ 127 }
-    ensures { IfOk result (λ name. name.items ≡ candidate_of conflict.now side path.now place) }
+    requires suffixes { HasSuffixes conflict.now }
+    requires small { place < 2 ^ 127 }
+    ensures name { IfOk result (λ name. name.items ≡ candidate_of conflict.now side path.now place) }
+    ensures path { IfOk result (λ name. length name.items ≤ 4096 → IsPath name.items) }
 {
     let mut name = path.as_bytes().to_vec(alloc)?;
     name.push(b'.')?;

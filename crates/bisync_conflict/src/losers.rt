@@ -21,7 +21,11 @@ pub fn loses(conflict: &ConflictRule, compare: &Compare, cell: &Cell<'_>, side: 
 {
     match rule_of_cell(compare, cell) {
         Rule::Conflict => {
-            gets_name(conflict.loser, winner_of_cell(conflict, compare, cell), side)
+            gets_name(
+                conflict.loser,
+                winner_of_cell(conflict, compare, cell),
+                side,
+            )
         }
         _ => false,
     }

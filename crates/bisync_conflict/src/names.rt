@@ -10,10 +10,10 @@ ghost use Rattle.bisync_model.specs.Names.{AreGiven, AreNames, AreNotNames};
 ghost use Rattle.bisync_model.specs.Views.{known_of, IsNarrowed};
 ghost use Rattle.bisync_conflict.specs.Naming.{candidate_of, view_names, IsFirst, IsNamed, HasLongName, IsSettledBy, IsRefused};
 
+use crate::NameFault;
 use crate::candidates::candidate;
 use crate::losers::{NamedLoser, named_losers};
 use crate::taken::Taken;
-use crate::NameFault;
 use bisync_text::{OutOfMemory, Path, PathFault};
 use bisync_tree::{Compare, ConflictRule, Given, Side, View, Window};
 use std::alloc::Global;
@@ -104,7 +104,9 @@ fn first_free(
     path: &Path,
     taken: &Taken<'_>,
 ) -> Result<Vec<u8>, OutOfMemory>
-    ensures { IfOk result (λ name. IsFirst (candidate_of conflict.now side path.now) taken.now name.items) }
+    requires { HasSuffixes conflict.now }
+    ensures first { IfOk result (λ name. IsFirst (candidate_of conflict.now side path.now) taken.now name.items) }
+    ensures path { IfOk result (λ name. length name.items ≤ 4096 → IsPath name.items) }
 {
     let count = taken.count();
     for place in 0..count {

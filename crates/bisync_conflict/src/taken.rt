@@ -1,7 +1,7 @@
 //! The names that are taken.
 
-ghost use Rattle.std.specs.Prelude.{◌≡◌, ◌<◌, ◌^◌, ◌*◌, length, OnOk};
-ghost use Rattle.bisync_tree.specs.Rows.{is_among};
+ghost use Rattle.std.specs.Prelude.{◌≡◌, ◌<◌, ◌^◌, ◌++◌, length, OnOk};
+ghost use Rattle.bisync_tree.specs.Rows.{keys, is_among};
 ghost use Rattle.bisync_conflict.specs.Naming.{view_names, IsAdded};
 
 use crate::sorted_paths::{SortedPaths, holds};
@@ -56,11 +56,7 @@ impl<'a> Taken<'a> {
     pub(crate) fn holds(&self, name: &[u8]) -> bool
         ensures { result ≡ is_among name.now self.now }
     {
-        self.given.contains(name)
-            || holds(&self.view.names1, name)
-            || holds(&self.view.names2, name)
-            || holds(&self.view.prior1, name)
-            || holds(&self.view.prior2, name)
+        self.given.contains(name) || has_name(self.view, name)
     }
 
     /// Adds a given name.
@@ -70,4 +66,25 @@ impl<'a> Taken<'a> {
         self.given.insert(name)?;
         Ok(())
     }
+}
+
+/// Whether a tree or a full base listing has a name.
+fn has_name(view: &View, name: &[u8]) -> bool
+    ensures { result ≡ is_among name.now (view_names view.now) }
+{
+    is_there(view, name) || was_there(view, name)
+}
+
+/// Whether a tree has a name.
+fn is_there(view: &View, name: &[u8]) -> bool
+    ensures { result ≡ is_among name.now (view.now.names1 ++ view.now.names2) }
+{
+    holds(&view.names1, name) || holds(&view.names2, name)
+}
+
+/// Whether a full base listing has a name.
+fn was_there(view: &View, name: &[u8]) -> bool
+    ensures { result ≡ is_among name.now (keys view.now.prior1 ++ keys view.now.prior2) }
+{
+    holds(&view.prior1, name) || holds(&view.prior2, name)
 }
