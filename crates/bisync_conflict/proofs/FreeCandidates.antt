@@ -1,5 +1,5 @@
 -- A first free candidate exists: candidates differ, and different names that are all taken are no more than there are.
-use Rattle.std.proofs.Common.{◌≡◌, ◌≢◌, ℕ, zero, suc, ◌+◌, ◌<◌, ◌≤◌, ◌^◌, ◌==◌, Bool, true, false, cond, ◌||◌, List, [], ◌∷◌, ◌++◌, length, refl, sym, ◌∙◌, ap, subst, arith, below_more}
+use Rattle.std.proofs.Common.{◌≡◌, ◌≢◌, ℕ, zero, suc, ◌+◌, ◌<◌, ◌≤◌, ◌^◌, ◌==◌, Bool, true, false, cond, ◌||◌, List, [], ◌∷◌, length, refl, sym, ◌∙◌, ap, subst, arith, below_more}
 use Rattle.std.specs.Prelude.{bytes_eq, decimal}
 use Rattle.std.specs.Str.Parse.{digits_value}
 use Rattle.std.proofs.lemmas.Bool.Decides.{Decides-eqb}
@@ -11,7 +11,7 @@ use Rattle.bisync_tree.specs.declared.options.Loser.{Loser}
 use Rattle.bisync_tree.specs.declared.options.Loser.TheVariants.{Num, Pathname, Delete}
 use Rattle.bisync_tree.specs.declared.options.ConflictRule.{ConflictRule}
 use Rattle.bisync_tree.proofs.PathOrder.{same_path, other_path}
-use Rattle.bisync_model.specs.Names.{mark, conflict_suffix, candidate_by}
+use Rattle.bisync_model.specs.Names.{mark, conflict_suffix}
 use Rattle.bisync_conflict.specs.Naming.{suffix_of, candidate_of, IsFirst}
 
 -- a list without the first place of a path

@@ -3,7 +3,7 @@ use Rattle.std.proofs.Common.{◌≡◌, ℕ, Bool, true, false, ◌||◌, ◌<�
 use Rattle.std.specs.Prelude.{bytes_eq, is_some}
 use Rattle.std.proofs.Math.Seq.{take-suc, drop-cons}
 use Rattle.std.proofs.lemmas.List.{take-append-drop}
-use Rattle.bisync_tree.specs.Rows.{PathBytes, keys, is_among, look}
+use Rattle.bisync_tree.specs.Rows.{PathBytes, keys, is_among}
 use Rattle.bisync_tree.specs.declared.steps.Given.{Given}
 use Rattle.bisync_tree.specs.declared.sides.Side.{Side}
 use Rattle.bisync_tree.specs.declared.sides.Side.TheVariants.{One, Two}

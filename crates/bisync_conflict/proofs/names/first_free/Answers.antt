@@ -1,7 +1,7 @@
-use Rattle.std.proofs.Common.{◌≡◌, true, false, ap, sym, ◌∙◌, subst, arith, below_more, ◌<◌, ◌^◌, ◌≤◌, ℕ, length, Vec, Global}
+use Rattle.std.proofs.Common.{◌≡◌, true, ap, sym, ◌∙◌, arith, below_more, ◌<◌, ◌^◌, ◌≤◌, ℕ, Vec, Global}
 use Rattle.std.proofs.lemmas.Result.{IfOk-weaker}
-use Rattle.bisync_tree.specs.Rows.{PathBytes, is_among}
-use Rattle.bisync_conflict.specs.Naming.{candidate_of, IsFirst}
+use Rattle.bisync_tree.specs.Rows.{is_among}
+use Rattle.bisync_conflict.specs.Naming.{candidate_of}
 use Rattle.bisync_conflict.proofs.FreeCandidates.{next_is_free, first_at}
 use Rattle.bisync_conflict.proofs.names.first_free.Goals as goal
 

@@ -1,4 +1,4 @@
-use Rattle.std.proofs.Common.{◌∙◌, sym, ◌++◌}
+use Rattle.std.proofs.Common.{◌∙◌, sym}
 use Rattle.bisync_tree.specs.Rows.{keys}
 use Rattle.bisync_conflict.proofs.SetsOfNames.{first_holds, second_decides}
 use Rattle.bisync_conflict.proofs.taken.was_there.Goals as goal

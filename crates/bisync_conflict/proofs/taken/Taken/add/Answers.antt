@@ -1,4 +1,4 @@
-use Rattle.std.proofs.Common.{◌≡◌, ap, ◌∙◌, ◌||◌, ◌++◌, map}
+use Rattle.std.proofs.Common.{ap, ◌∙◌, ◌||◌, ◌++◌, map}
 use Rattle.std.specs.Prelude.{bytes_eq}
 use Rattle.bisync_tree.specs.Rows.{is_among}
 use Rattle.bisync_conflict.specs.Naming.{view_names}

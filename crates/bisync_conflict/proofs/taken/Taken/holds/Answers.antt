@@ -1,4 +1,4 @@
-use Rattle.std.proofs.Common.{◌≡◌, Bool, true, false, ap, sym, ◌∙◌, ◌++◌, map}
+use Rattle.std.proofs.Common.{◌≡◌, true, false, ap, sym, ◌∙◌, map}
 use Rattle.bisync_tree.specs.Rows.{is_among}
 use Rattle.bisync_conflict.specs.Naming.{view_names}
 use Rattle.bisync_conflict.proofs.SetsOfNames.{held_in_set, first_holds, second_decides}
