@@ -151,80 +151,26 @@ fn told(alloc: Global, view: &View, rule: &ConflictRule) -> Result<Vec<u8>, Fail
 
 #[test]
 fn each_preference_has_its_winner(rt: HostRuntime) {
-    let small_early = entry(2, 10 * SECOND + 200_000_000);
-    let big_late = entry(3, 10 * SECOND + 900_000_000);
-    let big_next = entry(3, 11 * SECOND + 100_000_000);
+    let early = entry(2, 10 * SECOND + 200_000_000);
+    let late = entry(3, 10 * SECOND + 900_000_000);
+    let next = entry(3, 11 * SECOND + 100_000_000);
+    let path1 = Some(Side::One);
+    let path2 = Some(Side::Two);
     // the preference, the window, Path1's entry, Path2's, and who wins
     let cases = [
-        (Prefer::Nobody, Window::Ns1, small_early, big_late, None),
-        (
-            Prefer::Path1,
-            Window::S1,
-            small_early,
-            small_early,
-            Some(Side::One),
-        ),
-        (
-            Prefer::Path2,
-            Window::S1,
-            small_early,
-            small_early,
-            Some(Side::Two),
-        ),
-        (
-            Prefer::Newer,
-            Window::Ns1,
-            small_early,
-            big_late,
-            Some(Side::Two),
-        ),
-        (
-            Prefer::Newer,
-            Window::Ns1,
-            big_late,
-            small_early,
-            Some(Side::One),
-        ),
-        (Prefer::Newer, Window::S1, small_early, big_late, None),
-        (
-            Prefer::Newer,
-            Window::S1,
-            small_early,
-            big_next,
-            Some(Side::Two),
-        ),
-        (Prefer::Newer, Window::S2, small_early, big_next, None),
-        (
-            Prefer::Older,
-            Window::S1,
-            small_early,
-            big_next,
-            Some(Side::One),
-        ),
-        (
-            Prefer::Older,
-            Window::S1,
-            big_next,
-            small_early,
-            Some(Side::Two),
-        ),
-        (Prefer::Older, Window::S1, small_early, big_late, None),
-        (
-            Prefer::Larger,
-            Window::S1,
-            small_early,
-            big_late,
-            Some(Side::Two),
-        ),
-        (Prefer::Larger, Window::S1, big_late, big_next, None),
-        (
-            Prefer::Smaller,
-            Window::S1,
-            small_early,
-            big_late,
-            Some(Side::One),
-        ),
-        (Prefer::Smaller, Window::S1, big_next, big_late, None),
+        (Prefer::Nobody, Window::Ns1, early, late, None),
+        (Prefer::Path1, Window::S1, early, early, path1),
+        (Prefer::Path2, Window::S1, early, early, path2),
+        (Prefer::Newer, Window::Ns1, early, late, path2),
+        (Prefer::Newer, Window::S1, early, late, None),
+        (Prefer::Newer, Window::S1, early, next, path2),
+        (Prefer::Newer, Window::S1, next, early, path1),
+        (Prefer::Older, Window::S1, early, next, path1),
+        (Prefer::Older, Window::S1, early, late, None),
+        (Prefer::Larger, Window::S1, early, late, path2),
+        (Prefer::Larger, Window::S1, late, next, None),
+        (Prefer::Smaller, Window::S1, early, late, path1),
+        (Prefer::Smaller, Window::S1, next, late, None),
     ];
     for (prefer, window, one, two, expected) in cases {
         assert_eq!(rt; winner(prefer, window, &one, &two), expected);
