@@ -1,0 +1,2 @@
+pub mod DigestFileLaws
+pub mod FrontLaws

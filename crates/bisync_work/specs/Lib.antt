@@ -1,0 +1,3 @@
+pub mod DigestFiles
+pub mod Fronts
+pub mod KeptTexts

@@ -1,0 +1,8 @@
+//! The work folder of a session: the lock, and the filters file with its digest.
+#![tactic(auto)]
+
+mod digest_files;
+mod fronts;
+mod kept_texts;
+
+pub use digest_files::{store_digest, stored_digest};
