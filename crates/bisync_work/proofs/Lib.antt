@@ -1,2 +1,3 @@
 pub mod DigestFileLaws
 pub mod FrontLaws
+pub mod LockTextLaws

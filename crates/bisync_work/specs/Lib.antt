@@ -1,3 +1,5 @@
 pub mod DigestFiles
 pub mod Fronts
 pub mod KeptTexts
+pub mod LockBytes
+pub mod LockTexts

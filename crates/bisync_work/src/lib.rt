@@ -4,5 +4,6 @@
 mod digest_files;
 mod fronts;
 mod kept_texts;
+mod lock_texts;
 
 pub use digest_files::{store_digest, stored_digest};
