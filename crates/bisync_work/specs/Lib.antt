@@ -3,3 +3,4 @@ pub mod Fronts
 pub mod KeptTexts
 pub mod LockBytes
 pub mod LockTexts
+pub mod Locks

@@ -5,5 +5,7 @@ mod digest_files;
 mod fronts;
 mod kept_texts;
 mod lock_texts;
+mod locks;
 
 pub use digest_files::{store_digest, stored_digest};
+pub use locks::{Taken, free_lock, renew, take_lock};

@@ -15,6 +15,7 @@ const FRONT: &[u8; 23] = b"bisync lock v1\nexpires ";
 const NEVER: &[u8; 29] = b"bisync lock v1\nexpires never\n";
 
 /// The text of a lock.
+#[derive(Drop)]
 pub enum LockText {
     Never,
     At([u8; 58]),
