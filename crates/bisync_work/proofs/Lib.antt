@@ -1,3 +1,4 @@
 pub mod DigestFileLaws
 pub mod FrontLaws
+pub mod LockLaws
 pub mod LockTextLaws
