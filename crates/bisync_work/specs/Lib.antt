@@ -4,3 +4,4 @@ pub mod KeptTexts
 pub mod LockBytes
 pub mod LockTexts
 pub mod Locks
+pub mod RulesFiles

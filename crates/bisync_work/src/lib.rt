@@ -6,6 +6,8 @@ mod fronts;
 mod kept_texts;
 mod lock_texts;
 mod locks;
+mod rules_files;
 
 pub use digest_files::{store_digest, stored_digest};
 pub use locks::{Taken, free_lock, renew, take_lock};
+pub use rules_files::{RulesFault, read_rules};
