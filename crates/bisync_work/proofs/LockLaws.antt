@@ -1,5 +1,5 @@
 -- Until when a lock holds, by its text.
-use Rattle.std.proofs.Common.{◌≡◌, ◌⊎◌, ℕ, ◌+◌, ◌≤◌, ◌<◌, ℤ, ◌≤ℤ◌, ◌<ℤ◌, List, [], ◌∷◌, ◌++◌, length, take, refl, sym, ◌∙◌, ap, subst, inl, inr, arith, length-append, length-take, Option, Some, None, FitsSigned, true}
+use Rattle.std.proofs.Common.{◌≡◌, ◌⊎◌, ◌↔◌, ℕ, ◌+◌, ◌≤◌, ◌<◌, ℤ, ◌≤ℤ◌, ◌<ℤ◌, List, [], ◌∷◌, ◌++◌, length, take, refl, sym, ◌∙◌, ap, subst, inl, inr, arith, length-append, length-take, Option, Some, None, FitsSigned, true}
 use Rattle.std.proofs.lemmas.Int.{ints}
 use Rattle.std.proofs.lemmas.List.{take_all, append_cancel_left, append_cancel_right}
 use Rattle.std.specs.Int.{w64}
@@ -26,6 +26,14 @@ never_ends : (moment : ℤ) → lock_text None ≡ lock_text (Some moment) → �
 never_ends moment e =
     let sizes : length (lock_text None) ≡ length (lock_text (Some moment)) = ap length e in
     omega (arith, sizes, length-append (time_spelling moment) (10 ∷ []), length-spelling moment)
+
+-- what is a lock's text by the calendar is so by its time text, and no other text is
+pub spells_lock : (expiry : Option ℤ) (text : List ℕ) → IsExpiry expiry → SpellsLock expiry text ↔ (text ≡ lock_text expiry)
+spells_lock None text fits = (λ h. h.2 ∙ ap lock_with h.1, λ e. (expiry_word None, refl, e))
+spells_lock (Some moment) text fits = (
+  λ h. h.2 ∙ ap lock_with ((one_time_text moment fits h.0).0 h.1),
+  λ e. (time_spelling moment, (one_time_text moment fits (time_spelling moment)).1 refl, e),
+)
 
 -- a text says one thing
 pub one_until : (a b : Until) (text : List ℕ) → SaysUntil a text → SaysUntil b text → a ≡ b
