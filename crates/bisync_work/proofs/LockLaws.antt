@@ -97,4 +97,3 @@ pub one_blocking : (now : ℤ) (a b : Until) (lock : Held) → Blocks now a lock
 one_blocking now a b lock h k =
     let same : k.text ≡ h.text = let e = h.there in let f = k.there in cc in
     one_until a b h.text h.says (subst (SaysUntil b) same k.says)
-

@@ -58,10 +58,7 @@ impl From<AllocError> for RulesFault {
 /// `Absent` exactly where the file isn't there. `BadRule` exactly with the first line that is no rule
 /// or holds the first byte past 1,048,576, counted from 1. `OutOfMemory` where memory was refused, and
 /// `Failed` only where a call of the device failed.
-pub fn read_rules<W: Work>(
-    alloc: Global,
-    work: &mut W,
-) -> Result<(Rules, [u8; 16]), RulesFault>
+pub fn read_rules<W: Work>(alloc: Global, work: &mut W) -> Result<(Rules, [u8; 16]), RulesFault>
     ensures rules { IsTrue W.tells → IfOk result (λ read. HasRules read.0 read.1 (W.state work.old).folder.filters) }
     ensures fault { IsTrue W.tells → IfErr result (λ fault. IsRulesFault fault (W.state work.old).folder.filters) }
     ensures folder { KeepsFolder W.tells (W.state work.old) (W.state work.new) }
