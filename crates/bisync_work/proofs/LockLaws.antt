@@ -1,16 +1,15 @@
 -- Until when a lock holds, by its text.
-use Rattle.std.proofs.Common.{◌≡◌, ◌⊎◌, ◌↔◌, ℕ, ◌+◌, ◌≤◌, ◌<◌, ℤ, ◌≤ℤ◌, ◌<ℤ◌, List, [], ◌∷◌, ◌++◌, length, take, refl, sym, ◌∙◌, ap, subst, inl, inr, arith, length-append, length-take, Option, Some, None, FitsSigned, true}
+use Rattle.std.proofs.Common.{◌≡◌, ◌↔◌, ℕ, ◌≤◌, ◌<◌, ℤ, List, [], ◌∷◌, ◌++◌, length, take, refl, sym, ◌∙◌, ap, subst, inl, inr, arith, length-append, Option, Some, None, true}
 use Rattle.std.proofs.lemmas.Int.{ints}
 use Rattle.std.proofs.lemmas.List.{take_all, append_cancel_left, append_cancel_right}
-use Rattle.std.specs.Int.{w64}
 use Rattle.bisync_text.specs.Time.{time_spelling}
 use Rattle.bisync_text.proofs.TimeLaws.{own_time_text, length-spelling, one_time_text}
 use Rattle.bisync_tree.specs.declared.expiries.Until.{Until}
 use Rattle.bisync_tree.specs.declared.expiries.Until.TheVariants.{Unreadable, Never, At}
-use Rattle.bisync_device.specs.WorkFolder.{Held, Absent, bytes_of, is_there}
-use Rattle.bisync_work.specs.LockTexts.{lock_front, lock_with, lock_text, expiry_word, IsExpiry, SaysUntil, until_of, SpellsLock, SpellsExpiry}
+use Rattle.bisync_device.specs.WorkFolder.{Held, bytes_of, is_there}
+use Rattle.bisync_work.specs.LockTexts.{lock_front, lock_with, lock_text, expiry_word, IsExpiry, SaysUntil, until_of, SpellsLock}
 use Rattle.bisync_device.specs.WorkFolder.{WorkFolder}
-use Rattle.bisync_work.specs.Locks.{Blocks, IsOver, HoldsAt, IsFree, IsExpired, SaysIfThere}
+use Rattle.bisync_work.specs.Locks.{Blocks, IsOver, HoldsAt, IsFree, SaysIfThere}
 use Rattle.bisync_work.proofs.DigestFileLaws.{front_whole}
 
 -- # Texts

@@ -1,7 +1,7 @@
 -- The text of a lock, as it is read.
-use Rattle.std.proofs.Common.{◌≡◌, ℕ, ◌-◌, ◌≤◌, ◌+◌, ◌^◌, true, List, [], ◌∷◌, ◌++◌, length, take, drop, refl, sym, ◌∙◌, ap, arith, nat_eq, length-append, take-append-drop, Option, Some, None}
+use Rattle.std.proofs.Common.{◌≡◌, ℕ, ◌-◌, ◌+◌, true, List, [], ◌∷◌, ◌++◌, length, take, drop, sym, ◌∙◌, ap, nat_eq, take-append-drop, Option, Some, None}
 use Rattle.std.specs.Cmp.Lexicographic.{pointwise, same_text}
-use Rattle.std.specs.Prelude.{Bool, false, IfSome, MatchOption}
+use Rattle.std.specs.Prelude.{false, IfSome, MatchOption}
 use Rattle.std.specs.Borrow.{Bor}
 use Rattle.bisync_work.specs.LockTexts.{lock_front, lock_with}
 

@@ -5,12 +5,11 @@ use Rattle.std.proofs.lemmas.List.{append-nil}
 use Rattle.std.proofs.lemmas.List.Elements.{All-nil, All-cons, All-append}
 use Rattle.std.proofs.lemmas.Bool.Decides.{nat_tests}
 use Rattle.std.proofs.lemmas.List.Splits.{slice_split_none, slice_split_at}
-use Rattle.bisync_device.specs.WorkFolder.{Held, bytes_of}
+use Rattle.bisync_device.specs.WorkFolder.{Held}
 use Rattle.bisync_filter.specs.declared.rule_lists.Rule.{Rule}
-use Rattle.bisync_filter.specs.declared.lines.Line.{Line}
 use Rattle.bisync_filter.specs.declared.faults.RuleFault.TheVariants.{BadLine}
 use Rattle.bisync_filter.specs.Trimming.{lines}
-use Rattle.bisync_filter.specs.Spelling.{size_of, rules_after, LeadsTo, IsBadLine, IsFirstBadLine, SpellsRules, AreOnlyRules, IsFaultOf, IsOnlyFaultOf, most_bytes}
+use Rattle.bisync_filter.specs.Spelling.{size_of, rules_after, LeadsTo, IsFirstBadLine, SpellsRules, AreOnlyRules, IsFaultOf, most_bytes}
 use Rattle.bisync_filter.proofs.ReadingLaws.{size_of-lines}
 use Rattle.bisync_filter.proofs.SpellingLaws.{only_fault}
 use Rattle.md5.specs.Md5.{md5}

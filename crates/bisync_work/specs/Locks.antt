@@ -1,5 +1,5 @@
 -- Which locks block a run, and what the calls on the lock leave.
-use Rattle.std.specs.Prelude.{◌≡◌, ◌⊎◌, ℤ, ◌<ℤ◌, ◌≤ℤ◌, List, ℕ, Bool, true, false, Option, Some, None, FitsSigned, ⊤}
+use Rattle.std.specs.Prelude.{◌≡◌, ◌⊎◌, ℤ, ◌<ℤ◌, ◌≤ℤ◌, List, ℕ, Bool, true, false, Some, FitsSigned, ⊤}
 use Rattle.std.specs.Int.{w64}
 use Rattle.bisync_tree.specs.declared.expiries.Until.{Until}
 use Rattle.bisync_tree.specs.declared.expiries.Until.TheVariants.{Unreadable, Never, At}

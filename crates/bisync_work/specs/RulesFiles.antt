@@ -1,5 +1,5 @@
 -- The rules of the filters file.
-use Rattle.std.specs.Prelude.{◌≡◌, ◌⊎◌, ◌<◌, ℕ, List, [], ◌++◌, length, Bool, true, false, Option, Some, Result, Ok, Err, ⊤}
+use Rattle.std.specs.Prelude.{◌≡◌, ◌⊎◌, ◌<◌, ℕ, List, [], ◌++◌, length, Bool, true, false, Some, Result, Ok, Err, ⊤}
 use Rattle.md5.specs.Md5.{md5}
 use Rattle.bisync_device.specs.WorkFolder.{Held, Absent, bytes_of, is_there}
 use Rattle.bisync_filter.specs.declared.rule_lists.Rule.{Rule}

@@ -1,4 +1,4 @@
-use Rattle.std.proofs.Common.{◌≡◌, List, ℕ, length, take, arith, rules}
+use Rattle.std.proofs.Common.{◌≡◌, length, take, rules}
 use Rattle.bisync_work.proofs.DigestFileLaws.{digest_in_front, digest_in_file}
 use Rattle.bisync_work.proofs.digest_files.stored_digest.Goals as goal
 

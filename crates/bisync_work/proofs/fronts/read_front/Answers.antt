@@ -1,5 +1,4 @@
-use Rattle.std.proofs.Common.{rules, ◌++◌, ◌∙◌, ◌+◌, ◌-◌, ℕ, List, Some, sym, ap, arith, length, take}
-use borrow.Rule.Slice.PartMut.{put_mid}
+use Rattle.std.proofs.Common.{rules, ◌++◌, ◌∙◌, ◌-◌, ℕ, List, Some, sym, ap, arith, length, take}
 use Rattle.bisync_work.proofs.FrontLaws.{length_mid, front_more, front_all}
 use Rattle.bisync_work.proofs.fronts.read_front.Goals as goal
 

@@ -1,4 +1,4 @@
-use Rattle.std.proofs.Common.{◌≡◌, ℕ, ◌<◌, length, take, arith, rules}
+use Rattle.std.proofs.Common.{◌≡◌, ◌<◌, length, take, arith, rules}
 use Rattle.bisync_work.proofs.LockLaws.{says_whole}
 use Rattle.bisync_work.proofs.locks.see_lock.Goals as goal
 

@@ -1,4 +1,4 @@
-use Rattle.std.proofs.Common.{◌≡◌, true, false, arith, rules}
+use Rattle.std.proofs.Common.{◌≡◌, false, arith, rules}
 use Rattle.bisync_work.specs.Locks.{IsOver}
 use Rattle.std.proofs.lemmas.Grind.{common_steps}
 use Rattle.bisync_work.proofs.LockLaws.{seen_over}

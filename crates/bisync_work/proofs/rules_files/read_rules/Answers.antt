@@ -1,4 +1,4 @@
-use Rattle.std.proofs.Common.{◌≡◌, List, ℕ, subst, sym, ap, ◌∙◌}
+use Rattle.std.proofs.Common.{List, ℕ, subst, sym, ap, ◌∙◌}
 use Rattle.md5.specs.Md5.{md5}
 use Rattle.bisync_filter.specs.declared.faults.RuleFault.{RuleFault}
 use Rattle.bisync_filter.specs.Spelling.{IsFaultOf}
