@@ -6,9 +6,8 @@ use Rattle.bisync_text.specs.Time.{time_spelling}
 use Rattle.bisync_text.proofs.TimeLaws.{own_time_text, length-spelling, one_time_text}
 use Rattle.bisync_tree.specs.declared.expiries.Until.{Until}
 use Rattle.bisync_tree.specs.declared.expiries.Until.TheVariants.{Unreadable, Never, At}
-use Rattle.bisync_device.specs.WorkFolder.{Held, bytes_of, is_there}
+use Rattle.bisync_device.specs.WorkFolder.{Held, WorkFolder, bytes_of, is_there}
 use Rattle.bisync_work.specs.LockTexts.{lock_front, lock_with, lock_text, expiry_word, IsExpiry, SaysUntil, until_of, SpellsLock}
-use Rattle.bisync_device.specs.WorkFolder.{WorkFolder}
 use Rattle.bisync_work.specs.Locks.{Blocks, IsOver, HoldsAt, IsFree, SaysIfThere}
 use Rattle.bisync_work.proofs.DigestFileLaws.{front_whole}
 
