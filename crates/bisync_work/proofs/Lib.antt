@@ -1,0 +1,5 @@
+pub mod DigestFileLaws
+pub mod FrontLaws
+pub mod LockLaws
+pub mod LockTextLaws
+pub mod RulesFileLaws
