@@ -1,6 +1,5 @@
 -- The last line, by the end. The texts are this project's own.
 use Rattle.std.specs.Prelude.{ℕ, List, [], ◌∷◌, ◌++◌, codes, Option, Some, None}
-use Rattle.std.specs.Option.{option_map_or}
 use Rattle.std.specs.Fmt.{decimal}
 use Rattle.hex.specs.Hex.{encode_lower}
 use Rattle.bisync_text.specs.Quote.{quoted}
@@ -47,44 +46,46 @@ check_text side (Some path) = side_text side ++ (codes ": check file " ++ (quote
 abbrev pub changes_of : List ℕ → ℕ → ℕ → List ℕ
 changes_of word one two = word ++ (codes ", " ++ (decimal one ++ (codes " changes on path1, " ++ (decimal two ++ codes " changes on path2"))))
 
--- what the last line says, which the demonstration doesn't have
-abbrev pub end_text : End → Option (List ℕ)
-end_text (Done one two) = Some (changes_of (codes "done") one two)
-end_text (Resynced one two) = Some (changes_of (codes "resync done") one two)
-end_text DryRun = Some (codes "dry run, nothing was changed")
-end_text InSync = Some (codes "listings agree")
-end_text Demo = None
-end_text (Usage kind) = Some (usage_text kind)
-end_text WorkFault = Some (codes "work folder failed")
-end_text NoFilters = Some (codes "filters file is not there")
-end_text (BadRule line) = Some (codes "filters file: line " ++ (decimal line ++ codes " is no rule"))
-end_text (Locked until) = Some (lock_text until)
-end_text (FiltersChanged now stored) = Some (codes "filters file changed: " ++ (encode_lower now ++ (codes ", stored " ++ stored_text stored)))
-end_text (BadListing name line) = Some (work_text name ++ (codes ": line " ++ (decimal line ++ codes " is bad")))
-end_text (NeedResync need) = Some (need_text need)
-end_text (ListingsDiffer path one two) = Some (codes "listings differ at " ++ quoted path)
-end_text (EmptyPrior side) = Some (side_text side ++ codes ": prior listing is empty")
-end_text (RemoteFault side) = Some (side_text side ++ codes ": remote failed")
-end_text (BadPath side text) = Some (side_text side ++ (codes ": bad path " ++ quoted text))
-end_text (TooMany side files bytes) = Some (side_text side ++ (codes ": too many files, " ++ (decimal files ++ (codes " with " ++ (decimal bytes ++ codes " bytes of names")))))
-end_text (CheckAccess side path) = Some (check_text side path)
-end_text (EmptyCurrent side) = Some (side_text side ++ codes ": no files")
-end_text (TooManyDeletes side gone all) = Some (side_text side ++ (codes ": too many deletes, " ++ (decimal gone ++ (codes " of " ++ decimal all))))
-end_text (AllChanged side all) = Some (side_text side ++ (codes ": all " ++ (decimal all ++ codes " files changed")))
-end_text (NameTooLong side path) = Some (side_text side ++ (codes ": no room for a conflict name of " ++ quoted path))
-end_text (ListingTooLong side bytes) = Some (side_text side ++ (codes ": listing of " ++ (decimal bytes ++ codes " bytes is too long")))
-end_text (OutOfSync path one two) = Some (codes "out of sync at " ++ quoted path)
-end_text (Moved side path listed read) = Some (side_text side ++ (codes ": " ++ (quoted path ++ codes " changed during the run")))
-end_text (SinkFault done) = Some (codes "output failed")
-end_text LockLeft = Some (codes "lock could not be removed")
-end_text (FoldersLeft cause) = Some (codes "folders were left")
-end_text (KeepFault side) = Some (side_text side ++ codes ": backup folder failed")
-end_text (Checked differ) = Some (codes "check done, " ++ (decimal differ ++ codes " differ"))
-end_text OutOfMemory = Some (codes "out of memory")
+-- what an end says
+abbrev pub end_text : End → List ℕ
+end_text (Done one two) = changes_of (codes "done") one two
+end_text (Resynced one two) = changes_of (codes "resync done") one two
+end_text DryRun = codes "dry run, nothing was changed"
+end_text InSync = codes "listings agree"
+end_text Demo = []
+end_text (Usage kind) = usage_text kind
+end_text WorkFault = codes "work folder failed"
+end_text NoFilters = codes "filters file is not there"
+end_text (BadRule line) = codes "filters file: line " ++ (decimal line ++ codes " is no rule")
+end_text (Locked until) = lock_text until
+end_text (FiltersChanged now stored) = codes "filters file changed: " ++ (encode_lower now ++ (codes ", stored " ++ stored_text stored))
+end_text (BadListing name line) = work_text name ++ (codes ": line " ++ (decimal line ++ codes " is bad"))
+end_text (NeedResync need) = need_text need
+end_text (ListingsDiffer path one two) = codes "listings differ at " ++ quoted path
+end_text (EmptyPrior side) = side_text side ++ codes ": prior listing is empty"
+end_text (RemoteFault side) = side_text side ++ codes ": remote failed"
+end_text (BadPath side text) = side_text side ++ (codes ": bad path " ++ quoted text)
+end_text (TooMany side files bytes) = side_text side ++ (codes ": too many files, " ++ (decimal files ++ (codes " with " ++ (decimal bytes ++ codes " bytes of names"))))
+end_text (CheckAccess side path) = check_text side path
+end_text (EmptyCurrent side) = side_text side ++ codes ": no files"
+end_text (TooManyDeletes side gone all) = side_text side ++ (codes ": too many deletes, " ++ (decimal gone ++ (codes " of " ++ decimal all)))
+end_text (AllChanged side all) = side_text side ++ (codes ": all " ++ (decimal all ++ codes " files changed"))
+end_text (NameTooLong side path) = side_text side ++ (codes ": no room for a conflict name of " ++ quoted path)
+end_text (ListingTooLong side bytes) = side_text side ++ (codes ": listing of " ++ (decimal bytes ++ codes " bytes is too long"))
+end_text (OutOfSync path one two) = codes "out of sync at " ++ quoted path
+end_text (Moved side path listed read) = side_text side ++ (codes ": " ++ (quoted path ++ codes " changed during the run"))
+end_text (SinkFault done) = codes "output failed"
+end_text LockLeft = codes "lock could not be removed"
+end_text (FoldersLeft cause) = codes "folders were left"
+end_text (KeepFault side) = side_text side ++ codes ": backup folder failed"
+end_text (Checked differ) = codes "check done, " ++ (decimal differ ++ codes " differ")
+end_text OutOfMemory = codes "out of memory"
 
 -- a line of the program, with its newline
 abbrev pub named_line : List ℕ → List ℕ
 named_line words = codes "bisync: " ++ (words ++ 10 ∷ [])
 
+-- the demonstration has no last line
 abbrev pub last_text : End → List ℕ
-last_text end = option_map_or named_line (end_text end) []
+last_text Demo = []
+last_text end = named_line (end_text end)

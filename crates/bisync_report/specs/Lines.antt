@@ -4,7 +4,7 @@ use Rattle.std.specs.List.{flat_map}
 use Rattle.bisync_text.specs.Quote.{quoted}
 use Rattle.bisync_tree.specs.Rows.{PathBytes, look}
 use Rattle.bisync_tree.specs.Side.{other}
-use Rattle.bisync_tree.specs.Walk.{Listings, CellValue, listings_of, paths_of, cell_at}
+use Rattle.bisync_tree.specs.Walk.{CellValue, listings_of, paths_of, cell_at}
 use Rattle.bisync_tree.specs.declared.sides.Side.{Side}
 use Rattle.bisync_tree.specs.declared.sides.Side.TheVariants.{One, Two}
 use Rattle.bisync_tree.specs.declared.steps.Step.{Step}
@@ -25,9 +25,10 @@ delta_line side path (Some delta) = side_text side ++ (codes " " ++ (delta_text 
 abbrev pub delta_lines : Compare → CellValue → List ℕ
 delta_lines compare cell = delta_line One cell.path (delta_of compare cell.base1 cell.now1) ++ delta_line Two cell.path (delta_of compare cell.base2 cell.now2)
 
--- the lines of every passing path, in byte order
-abbrev pub changes_text : Compare → Listings → List ℕ
-changes_text compare l = flat_map (λ path. delta_lines compare (cell_at l path)) (paths_of l)
+-- the lines of every passing path, in byte order; a resync has no view, and tells no changes
+abbrev pub changes_text : Compare → Option View → List ℕ
+changes_text compare None = []
+changes_text compare (Some view) = flat_map (λ path. delta_lines compare (cell_at (listings_of view) path)) (paths_of (listings_of view))
 
 abbrev pub step_line : Step → List ℕ
 step_line (Copy from path entry) = codes "copy " ++ (side_text from ++ (codes " " ++ (side_text (other from) ++ (codes " " ++ (quoted path ++ 10 ∷ [])))))
@@ -38,7 +39,6 @@ step_line (Delete side path entry) = codes "delete " ++ (side_text side ++ (code
 abbrev pub steps_text : List Step → List ℕ
 steps_text steps = flat_map step_line steps
 
--- a resync has no view, and tells no changes
+-- what changed, and then the steps
 abbrev pub plan_text : Option View → Compare → Plan → List ℕ
-plan_text None compare plan = steps_text plan.steps.items
-plan_text (Some view) compare plan = changes_text compare (listings_of view) ++ steps_text plan.steps.items
+plan_text view compare plan = changes_text compare view ++ steps_text plan.steps.items

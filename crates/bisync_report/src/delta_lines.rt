@@ -1,11 +1,11 @@
 //! The lines of what changed since the last good run.
 
-ghost use Rattle.std.specs.Prelude.{◌++◌};
-ghost use Rattle.bisync_tree.specs.Walk.{listings_of, seen};
+ghost use Rattle.std.specs.Prelude.{option_copied};
+ghost use Rattle.std.specs.List.{flat_map};
+ghost use Rattle.bisync_tree.specs.Walk.{seen};
 ghost use Rattle.bisync_report.specs.Lines.{delta_line, delta_lines, changes_text};
 ghost use Rattle.bisync_report.specs.Waiting.{Puts};
 
-use crate::names::{delta_name, side_name};
 use crate::parts::Part;
 use crate::waiting::Waiting;
 use bisync_device::{Failed, Sink};
@@ -14,16 +14,29 @@ use bisync_table::{Cell, Delta, Walk};
 use bisync_text::Path;
 use bisync_tree::{Compare, Side, View};
 
-/// Puts the lines of every passing path, in byte order.
+/// Puts the lines of every passing path, in byte order. Where there is no view, there are none.
 pub fn put_changes<S: Sink>(
-    view: &View,
+    view: Option<&View>,
     compare: &Compare,
     waiting: &mut Waiting,
     sink: &mut S,
 ) -> Result<(), Failed>
-    ensures { Puts S.tells (changes_text compare.now (listings_of view.now)) waiting.old (S.state sink.old) waiting.new (S.state sink.new) result }
+    ensures { Puts S.tells (changes_text compare.now (option_copied view.entry)) waiting.old (S.state sink.old) waiting.new (S.state sink.new) result }
 {
-    let mut walk = Walk::new(view);
+    match view {
+        None => Ok(()),
+        Some(view) => put_cells(&mut Walk::new(view), compare, waiting, sink),
+    }
+}
+
+fn put_cells<S: Sink>(
+    walk: &mut Walk<'_>,
+    compare: &Compare,
+    waiting: &mut Waiting,
+    sink: &mut S,
+) -> Result<(), Failed>
+    ensures { Puts S.tells (flat_map (delta_lines compare.now) walk.old) waiting.old (S.state sink.old) waiting.new (S.state sink.new) result }
+{
     while let Some(cell) = walk.next() {
         put_cell(compare, &cell, waiting, sink)?;
     }
@@ -58,9 +71,9 @@ fn put_delta<S: Sink>(
     };
     waiting.put_parts(
         &[
-            Part::Words(side_name(side)),
+            Part::Of(side),
             Part::Words(b" "),
-            Part::Words(delta_name(delta)),
+            Part::Change(delta),
             Part::Words(b" "),
             Part::Quoted(path.as_bytes()),
             Part::Words(b"\n"),

@@ -1,13 +1,12 @@
 //! What a last line says, as parts.
 
-ghost use Rattle.std.specs.Prelude.{◌≡◌, ◌++◌, codes, decimal, option_map};
+ghost use Rattle.std.specs.Prelude.{◌≡◌, ◌++◌, codes, decimal};
 ghost use Rattle.hex.specs.Hex.{encode_lower};
 ghost use Rattle.bisync_text.specs.Quote.{quoted};
 ghost use Rattle.bisync_report.specs.Names.{side_text};
 ghost use Rattle.bisync_report.specs.Parts.{part_text, parts_text};
 ghost use Rattle.bisync_report.specs.LastLine.{end_text, usage_text, lock_text, need_text, check_text, stored_text, changes_of};
 
-use crate::names::{field_names, option_name, side_name, work_name};
 use crate::parts::Part;
 use crate::{End, Need};
 use bisync_opts::UsageKind;
@@ -17,23 +16,23 @@ use bisync_tree::{Side, Until};
 /// As many parts as a line has at most. Shorter lines end with empty words.
 type Parts<'a> = [Part<'a>; 6];
 
-/// What the last line says. None exactly where there is none.
-pub fn parts_of<'a>(end: &'a End) -> Option<Parts<'a>>
-    ensures { option_map parts_text result ≡ end_text end.now }
+/// What the last line says behind the name of the program.
+pub fn parts_of<'a>(end: &'a End) -> Parts<'a>
+    ensures { parts_text result ≡ end_text end.now }
 {
-    Some(match end {
+    match end {
         End::Done { one, two } => changes(b"done", *one, *two),
         End::Resynced { one, two } => changes(b"resync done", *one, *two),
         End::DryRun => words(b"dry run, nothing was changed"),
         End::InSync => words(b"listings agree"),
-        End::Demo => return None,
+        End::Demo => words(b""),
         End::Usage(kind) => usage(*kind),
         End::WorkFault => words(b"work folder failed"),
         End::NoFilters => words(b"filters file is not there"),
         End::BadRule(n) => around(b"filters file: line ", Part::Number(*n), b" is no rule"),
         End::Locked(until) => lock(*until),
         End::FiltersChanged { now, stored } => filters(now, stored),
-        End::BadListing(name, n) => counted(work_name(*name), b": line ", *n, b" is bad"),
+        End::BadListing(name, n) => counted(Part::Work(*name), b": line ", *n, b" is bad"),
         End::NeedResync(need) => need_of(need),
         End::ListingsDiffer(path, _, _) => at_path(b"listings differ at ", path),
         End::EmptyPrior(side) => of_side(*side, b": prior listing is empty"),
@@ -43,7 +42,7 @@ pub fn parts_of<'a>(end: &'a End) -> Option<Parts<'a>>
         End::CheckAccess(side, path) => check_file(*side, path),
         End::EmptyCurrent(side) => of_side(*side, b": no files"),
         End::TooManyDeletes(side, gone, all) => too_many_deletes(*side, *gone, *all),
-        End::AllChanged(side, n) => counted(side_name(*side), b": all ", *n, b" files changed"),
+        End::AllChanged(side, n) => counted(Part::Of(*side), b": all ", *n, b" files changed"),
         End::NameTooLong(side, path) => no_room(*side, path),
         End::ListingTooLong(side, bytes) => too_long(*side, *bytes),
         End::OutOfSync(path, _, _) => at_path(b"out of sync at ", path),
@@ -54,7 +53,7 @@ pub fn parts_of<'a>(end: &'a End) -> Option<Parts<'a>>
         End::KeepFault(side) => of_side(*side, b": backup folder failed"),
         End::Checked { differ } => around(b"check done, ", Part::Number(*differ), b" differ"),
         End::OutOfMemory => words(b"out of memory"),
-    })
+    }
 }
 
 fn usage<'a>(kind: UsageKind) -> Parts<'a>
@@ -63,7 +62,7 @@ fn usage<'a>(kind: UsageKind) -> Parts<'a>
     match kind {
         UsageKind::Command => words(b"usage: no such command"),
         UsageKind::Words => words(b"usage: words refused"),
-        UsageKind::Value(name) => up_to(b"usage: bad value of ", Part::Words(option_name(name))),
+        UsageKind::Value(name) => up_to(b"usage: bad value of ", Part::Named(name)),
         UsageKind::Together => words(b"usage: these options do not go together"),
     }
 }
@@ -78,15 +77,15 @@ fn lock<'a>(until: Until) -> Parts<'a>
     }
 }
 
-fn need_of<'a>(need: &Need) -> Parts<'a>
-    ensures { parts_text result ≡ need_text need.now }
+fn need_of<'a>(need: &'a Need) -> Parts<'a>
+    ensures { parts_text result ≡ need_text need.entry.now }
 {
     match need {
         Need::NoBase => words(b"no listings, run with --resync"),
         Need::NotRecovering => words(b"last run did not end, run with --recover or --resync"),
         Need::FieldsChanged(stored) => around(
             b"listings were made with ",
-            Part::Words(field_names(stored)),
+            Part::Fields(stored),
             b", run with --resync",
         ),
     }
@@ -135,7 +134,7 @@ fn too_many<'a>(side: Side, files: u64, bytes: u64) -> Parts<'a>
     ensures { parts_text result ≡ side_text side ++ (codes ": too many files, " ++ (decimal files ++ (codes " with " ++ (decimal bytes ++ codes " bytes of names")))) }
 {
     [
-        Part::Words(side_name(side)),
+        Part::Of(side),
         Part::Words(b": too many files, "),
         Part::Number(files),
         Part::Words(b" with "),
@@ -148,7 +147,7 @@ fn too_many_deletes<'a>(side: Side, gone: u64, all: u64) -> Parts<'a>
     ensures { parts_text result ≡ side_text side ++ (codes ": too many deletes, " ++ (decimal gone ++ (codes " of " ++ decimal all))) }
 {
     [
-        Part::Words(side_name(side)),
+        Part::Of(side),
         Part::Words(b": too many deletes, "),
         Part::Number(gone),
         Part::Words(b" of "),
@@ -166,7 +165,7 @@ fn no_room<'a>(side: Side, path: &'a Path) -> Parts<'a>
 fn too_long<'a>(side: Side, bytes: u64) -> Parts<'a>
     ensures { parts_text result ≡ side_text side ++ (codes ": listing of " ++ (decimal bytes ++ codes " bytes is too long")) }
 {
-    counted(side_name(side), b": listing of ", bytes, b" bytes is too long")
+    counted(Part::Of(side), b": listing of ", bytes, b" bytes is too long")
 }
 
 fn words<'a>(words: &'a [u8]) -> Parts<'a>
@@ -178,7 +177,7 @@ fn words<'a>(words: &'a [u8]) -> Parts<'a>
 fn of_side<'a>(side: Side, after: &'a [u8]) -> Parts<'a>
     ensures { parts_text result ≡ side_text side ++ after.entry.now }
 {
-    four(Part::Words(side_name(side)), after, Part::Words(b""), b"")
+    four(Part::Of(side), after, Part::Words(b""), b"")
 }
 
 fn up_to<'a>(before: &'a [u8], part: Part<'a>) -> Parts<'a>
@@ -202,24 +201,24 @@ fn at_path<'a>(before: &'a [u8], path: &'a Path) -> Parts<'a>
 fn naming<'a>(side: Side, before: &'a [u8], text: &'a [u8]) -> Parts<'a>
     ensures { parts_text result ≡ side_text side ++ (before.entry.now ++ quoted text.entry.now) }
 {
-    four(Part::Words(side_name(side)), before, Part::Quoted(text), b"")
+    four(Part::Of(side), before, Part::Quoted(text), b"")
 }
 
 fn with_path<'a>(side: Side, before: &'a [u8], path: &'a Path, after: &'a [u8]) -> Parts<'a>
     ensures { parts_text result ≡ side_text side ++ (before.entry.now ++ (quoted path.entry.now ++ after.entry.now)) }
 {
     four(
-        Part::Words(side_name(side)),
+        Part::Of(side),
         before,
         Part::Quoted(path.as_bytes()),
         after,
     )
 }
 
-fn counted<'a>(name: &'a [u8], before: &'a [u8], n: u64, after: &'a [u8]) -> Parts<'a>
-    ensures { parts_text result ≡ name.entry.now ++ (before.entry.now ++ (decimal n ++ after.entry.now)) }
+fn counted<'a>(name: Part<'a>, before: &'a [u8], n: u64, after: &'a [u8]) -> Parts<'a>
+    ensures { parts_text result ≡ part_text name.entry ++ (before.entry.now ++ (decimal n ++ after.entry.now)) }
 {
-    four(Part::Words(name), before, Part::Number(n), after)
+    four(name, before, Part::Number(n), after)
 }
 
 /// Four parts, of which the second and the last are words.

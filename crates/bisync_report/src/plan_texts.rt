@@ -23,9 +23,19 @@ pub fn plan_lines<S: Sink>(
     ensures bytes { Adds S.tells (plan_text (option_copied view.entry) compare.now plan.now) (S.state sink.old) (S.state sink.new) result }
 {
     let mut waiting = Waiting::new();
-    if let Some(view) = view {
-        put_changes(view, compare, &mut waiting, sink)?;
-    }
-    put_steps(&plan.steps, &mut waiting, sink)?;
+    put_plan(view, compare, plan, &mut waiting, sink)?;
     waiting.flush(sink)
+}
+
+fn put_plan<S: Sink>(
+    view: Option<&View>,
+    compare: &Compare,
+    plan: &Plan,
+    waiting: &mut Waiting,
+    sink: &mut S,
+) -> Result<(), Failed>
+    ensures { Puts S.tells (plan_text (option_copied view.entry) compare.now plan.now) waiting.old (S.state sink.old) waiting.new (S.state sink.new) result }
+{
+    put_changes(view, compare, waiting, sink)?;
+    put_steps(&plan.steps, waiting, sink)
 }

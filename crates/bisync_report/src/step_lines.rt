@@ -3,7 +3,6 @@
 ghost use Rattle.bisync_report.specs.Lines.{step_line, steps_text};
 ghost use Rattle.bisync_report.specs.Waiting.{Puts};
 
-use crate::names::side_name;
 use crate::parts::Part;
 use crate::waiting::Waiting;
 use bisync_device::{Failed, Sink};
@@ -30,9 +29,9 @@ fn put_step<S: Sink>(step: &Step, waiting: &mut Waiting, sink: &mut S) -> Result
         Step::Copy { from, path, .. } => waiting.put_parts(
             &[
                 Part::Words(b"copy "),
-                Part::Words(side_name(*from)),
+                Part::Of(*from),
                 Part::Words(b" "),
-                Part::Words(side_name(from.other())),
+                Part::Of(from.other()),
                 Part::Words(b" "),
                 Part::Quoted(path.as_bytes()),
                 Part::Words(b"\n"),
@@ -42,7 +41,7 @@ fn put_step<S: Sink>(step: &Step, waiting: &mut Waiting, sink: &mut S) -> Result
         Step::Rename { side, from, to, .. } => waiting.put_parts(
             &[
                 Part::Words(b"rename "),
-                Part::Words(side_name(*side)),
+                Part::Of(*side),
                 Part::Words(b" "),
                 Part::Quoted(from.as_bytes()),
                 Part::Words(b" "),
@@ -54,7 +53,7 @@ fn put_step<S: Sink>(step: &Step, waiting: &mut Waiting, sink: &mut S) -> Result
         Step::Delete { side, path, .. } => waiting.put_parts(
             &[
                 Part::Words(b"delete "),
-                Part::Words(side_name(*side)),
+                Part::Of(*side),
                 Part::Words(b" "),
                 Part::Quoted(path.as_bytes()),
                 Part::Words(b"\n"),

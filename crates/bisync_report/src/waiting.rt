@@ -1,10 +1,12 @@
 //! Bytes that wait until there are enough of them to be given to a sink.
 
 ghost use Rattle.std.specs.Prelude.{◌≡◌, ◌+◌, ◌≤◌, [], ◌++◌, length, OnOk, IsTrue, ◌↔◌};
-ghost use Rattle.bisync_text.specs.Quote.{quoted};
+ghost use Rattle.bisync_text.specs.Quote.{quoted, quoted_byte};
+ghost use Rattle.std.specs.List.{flat_map};
 ghost use Rattle.bisync_report.specs.Parts.{part_text, parts_text};
 ghost use Rattle.bisync_report.specs.Waiting.{Puts};
 
+use crate::names::{delta_name, field_names, option_name, side_name, work_name};
 use crate::parts::Part;
 use bisync_device::{Failed, Sink};
 use bisync_filter::digest_text;
@@ -76,10 +78,17 @@ impl Waiting {
         ensures { Puts S.tells (quoted bytes.now) self.old (S.state sink.old) self.new (S.state sink.new) result }
     {
         self.put(b"\"", sink)?;
+        self.put_escaped(bytes, sink)?;
+        self.put(b"\"", sink)
+    }
+
+    fn put_escaped<S: Sink>(&mut self, bytes: &[u8], sink: &mut S) -> Result<(), Failed>
+        ensures { Puts S.tells (flat_map quoted_byte bytes.now) self.old (S.state sink.old) self.new (S.state sink.new) result }
+    {
         for byte in bytes {
             self.put(QuotedByte::new(*byte).as_bytes(), sink)?;
         }
-        self.put(b"\"", sink)
+        Ok(())
     }
 
     fn put_part<S: Sink>(&mut self, part: Part<'_>, sink: &mut S) -> Result<(), Failed>
@@ -91,6 +100,11 @@ impl Waiting {
             Part::Number(n) => self.put(Buffer::new().format(n).as_bytes(), sink),
             Part::Time(moment) => self.put(&time_text(moment), sink),
             Part::Digest(digest) => self.put(&digest_text(digest), sink),
+            Part::Of(side) => self.put(side_name(side), sink),
+            Part::Change(delta) => self.put(delta_name(delta), sink),
+            Part::Named(option) => self.put(option_name(option), sink),
+            Part::Work(name) => self.put(work_name(name), sink),
+            Part::Fields(fields) => self.put(field_names(fields), sink),
         }
     }
 
