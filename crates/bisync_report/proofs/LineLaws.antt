@@ -35,14 +35,14 @@ pub each_more : {X : Type 0} (f : X → List ℕ) (xs : List X) (i : ℕ) (d : X
     → Puts t (flat_map f (take (i + 1) xs)) w s w2 s2 (Ok tt)
 each_more f xs i d t x w w1 w2 s s1 s2 h e p q =
     subst (λ (v : List ℕ). Puts t v w s w2 s2 (Ok tt)) (ap (λ (v : List ℕ). flat_map f (take i xs) ++ v) e ∙ flat_map-more f xs i d h)
-        (puts_then t (flat_map f (take i xs)) x w w1 w2 s s1 s2 (Ok tt) p q)
+    (puts_then t (flat_map f (take i xs)) x w w1 w2 s s1 s2 (Ok tt) p q)
 
 pub each_stop : {X : Type 0} (Q : Failed → Type 0) (f : X → List ℕ) (xs : List X) (i : ℕ) (d : X) (t : Bool) (x w w1 w2 : List ℕ) (s s1 s2 : SinkState) (e : Failed) (r : Result (Unit {0}) Failed)
     → IsErrAnd r Q → i < length xs → x ≡ f (get_or xs i d) → Puts t (flat_map f (take i xs)) w s w1 s1 (Ok tt) → Puts t x w1 s1 w2 s2 (Err e)
     → Puts t (flat_map f xs) w s w2 s2 r
 each_stop Q f xs i d t x w w1 w2 s s1 s2 e r is h at p q =
     puts_break Q t (flat_map f xs) (flat_map f (take i xs)) x (flat_map f (drop (i + 1) xs)) w w1 w2 s s1 s2 e r is
-        (flat_map-cut f xs i d h ∙ ap (λ (v : List ℕ). flat_map f (take i xs) ++ (v ++ flat_map f (drop (i + 1) xs))) (sym at)) p q
+    (flat_map-cut f xs i d h ∙ ap (λ (v : List ℕ). flat_map f (take i xs) ++ (v ++ flat_map f (drop (i + 1) xs))) (sym at)) p q
 
 -- what is put so far, and the rest of all that is to be put
 pub record PutsUpTo (t : Bool) (all rest w : List ℕ) (s : SinkState) (w1 : List ℕ) (s1 : SinkState) : Type 0 where

@@ -21,7 +21,8 @@ pub fn put_changes<S: Sink>(
     waiting: &mut Waiting,
     sink: &mut S,
 ) -> Result<(), Failed>
-    ensures { Puts S.tells (changes_text compare.now (option_copied view.entry)) waiting.old (S.state sink.old) waiting.new (S.state sink.new) result }
+    ensures { Puts S.tells (changes_text compare.now (option_copied view.entry))
+        waiting.old (S.state sink.old) waiting.new (S.state sink.new) result }
 {
     match view {
         None => Ok(()),
@@ -35,7 +36,8 @@ fn put_cells<S: Sink>(
     waiting: &mut Waiting,
     sink: &mut S,
 ) -> Result<(), Failed>
-    ensures { Puts S.tells (flat_map (delta_lines compare.now) walk.old) waiting.old (S.state sink.old) waiting.new (S.state sink.new) result }
+    ensures { Puts S.tells (flat_map (delta_lines compare.now) walk.old)
+        waiting.old (S.state sink.old) waiting.new (S.state sink.new) result }
 {
     while let Some(cell) = walk.next() {
         put_cell(compare, &cell, waiting, sink)?;
@@ -49,7 +51,8 @@ fn put_cell<S: Sink>(
     waiting: &mut Waiting,
     sink: &mut S,
 ) -> Result<(), Failed>
-    ensures { Puts S.tells (delta_lines compare.now (seen cell.now)) waiting.old (S.state sink.old) waiting.new (S.state sink.new) result }
+    ensures { Puts S.tells (delta_lines compare.now (seen cell.now))
+        waiting.old (S.state sink.old) waiting.new (S.state sink.new) result }
 {
     let one = delta(compare, cell.base1, cell.now1);
     put_delta(Side::One, cell.path, one, waiting, sink)?;
@@ -64,7 +67,8 @@ fn put_delta<S: Sink>(
     waiting: &mut Waiting,
     sink: &mut S,
 ) -> Result<(), Failed>
-    ensures { Puts S.tells (delta_line side path.now delta) waiting.old (S.state sink.old) waiting.new (S.state sink.new) result }
+    ensures { Puts S.tells (delta_line side path.now delta)
+        waiting.old (S.state sink.old) waiting.new (S.state sink.new) result }
 {
     let Some(delta) = delta else {
         return Ok(());

@@ -92,7 +92,8 @@ fn need_of<'a>(need: &'a Need) -> Parts<'a>
 }
 
 fn filters<'a>(now: &'a [u8; 16], stored: &'a Option<[u8; 16]>) -> Parts<'a>
-    ensures { parts_text result ≡ codes "filters file changed: " ++ (encode_lower now.now ++ (codes ", stored " ++ stored_text stored.now)) }
+    ensures { parts_text result
+        ≡ codes "filters file changed: " ++ (encode_lower now.now ++ (codes ", stored " ++ stored_text stored.now)) }
 {
     let stored = match stored {
         Some(digest) => Part::Digest(digest),
@@ -131,7 +132,8 @@ fn changes<'a>(word: &'a [u8], one: u64, two: u64) -> Parts<'a>
 }
 
 fn too_many<'a>(side: Side, files: u64, bytes: u64) -> Parts<'a>
-    ensures { parts_text result ≡ side_text side ++ (codes ": too many files, " ++ (decimal files ++ (codes " with " ++ (decimal bytes ++ codes " bytes of names")))) }
+    ensures { parts_text result ≡ side_text side ++ (codes ": too many files, "
+        ++ (decimal files ++ (codes " with " ++ (decimal bytes ++ codes " bytes of names")))) }
 {
     [
         Part::Of(side),
@@ -144,7 +146,8 @@ fn too_many<'a>(side: Side, files: u64, bytes: u64) -> Parts<'a>
 }
 
 fn too_many_deletes<'a>(side: Side, gone: u64, all: u64) -> Parts<'a>
-    ensures { parts_text result ≡ side_text side ++ (codes ": too many deletes, " ++ (decimal gone ++ (codes " of " ++ decimal all))) }
+    ensures { parts_text result ≡ side_text side ++ (codes ": too many deletes, "
+        ++ (decimal gone ++ (codes " of " ++ decimal all))) }
 {
     [
         Part::Of(side),
@@ -157,15 +160,22 @@ fn too_many_deletes<'a>(side: Side, gone: u64, all: u64) -> Parts<'a>
 }
 
 fn no_room<'a>(side: Side, path: &'a Path) -> Parts<'a>
-    ensures { parts_text result ≡ side_text side ++ (codes ": no room for a conflict name of " ++ quoted path.entry.now) }
+    ensures { parts_text result
+        ≡ side_text side ++ (codes ": no room for a conflict name of " ++ quoted path.entry.now) }
 {
     naming(side, b": no room for a conflict name of ", path.as_bytes())
 }
 
 fn too_long<'a>(side: Side, bytes: u64) -> Parts<'a>
-    ensures { parts_text result ≡ side_text side ++ (codes ": listing of " ++ (decimal bytes ++ codes " bytes is too long")) }
+    ensures { parts_text result
+        ≡ side_text side ++ (codes ": listing of " ++ (decimal bytes ++ codes " bytes is too long")) }
 {
-    counted(Part::Of(side), b": listing of ", bytes, b" bytes is too long")
+    counted(
+        Part::Of(side),
+        b": listing of ",
+        bytes,
+        b" bytes is too long",
+    )
 }
 
 fn words<'a>(words: &'a [u8]) -> Parts<'a>
@@ -205,25 +215,23 @@ fn naming<'a>(side: Side, before: &'a [u8], text: &'a [u8]) -> Parts<'a>
 }
 
 fn with_path<'a>(side: Side, before: &'a [u8], path: &'a Path, after: &'a [u8]) -> Parts<'a>
-    ensures { parts_text result ≡ side_text side ++ (before.entry.now ++ (quoted path.entry.now ++ after.entry.now)) }
+    ensures { parts_text result
+        ≡ side_text side ++ (before.entry.now ++ (quoted path.entry.now ++ after.entry.now)) }
 {
-    four(
-        Part::Of(side),
-        before,
-        Part::Quoted(path.as_bytes()),
-        after,
-    )
+    four(Part::Of(side), before, Part::Quoted(path.as_bytes()), after)
 }
 
 fn counted<'a>(name: Part<'a>, before: &'a [u8], n: u64, after: &'a [u8]) -> Parts<'a>
-    ensures { parts_text result ≡ part_text name.entry ++ (before.entry.now ++ (decimal n ++ after.entry.now)) }
+    ensures { parts_text result
+        ≡ part_text name.entry ++ (before.entry.now ++ (decimal n ++ after.entry.now)) }
 {
     four(name, before, Part::Number(n), after)
 }
 
 /// Four parts, of which the second and the last are words.
 fn four<'a>(first: Part<'a>, before: &'a [u8], part: Part<'a>, after: &'a [u8]) -> Parts<'a>
-    ensures { parts_text result ≡ part_text first.entry ++ (before.entry.now ++ (part_text part.entry ++ after.entry.now)) }
+    ensures { parts_text result
+        ≡ part_text first.entry ++ (before.entry.now ++ (part_text part.entry ++ after.entry.now)) }
 {
     [
         first,

@@ -7,9 +7,15 @@ use bisync_tree::{Compare, Entry, Side, Until};
 #[derive(Drop)]
 pub enum End {
     /// A run ended well, with these numbers of changes on Path1 and Path2.
-    Done { one: u64, two: u64 },
+    Done {
+        one: u64,
+        two: u64,
+    },
     /// A resync ended well, with these numbers of changes on Path1 and Path2.
-    Resynced { one: u64, two: u64 },
+    Resynced {
+        one: u64,
+        two: u64,
+    },
     /// A dry run ended well.
     DryRun,
     /// The listings of the base agree.
@@ -64,7 +70,9 @@ pub enum End {
     /// None where no file was there or it had too many bytes to count.
     Moved(Side, Path, Entry, Option<Entry>),
     /// The output failed: at the last line after a good end where `done`, and else before.
-    SinkFault { done: bool },
+    SinkFault {
+        done: bool,
+    },
     /// The lock could not be removed after a good end.
     LockLeft,
     /// Folders could not be made or removed after a good end.
@@ -72,7 +80,9 @@ pub enum End {
     /// A call of the side's backup folder failed.
     KeepFault(Side),
     /// A check ended, and that many paths differ.
-    Checked { differ: u64 },
+    Checked {
+        differ: u64,
+    },
     /// Memory was refused.
     OutOfMemory,
 }

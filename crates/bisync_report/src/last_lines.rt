@@ -1,4 +1,4 @@
-ghost use Rattle.std.specs.Prelude.{◌≡◌, is_err};
+ghost use Rattle.std.specs.Prelude.{◌≡◌, Ok, is_err};
 ghost use Rattle.bisync_device.specs.Faults.{HasCause};
 ghost use Rattle.bisync_device.specs.Sink.{Adds};
 ghost use Rattle.bisync_report.specs.LastLine.{last_text, named_line};
@@ -16,6 +16,7 @@ use bisync_device::{Failed, Sink};
 pub fn last_line<S: Sink>(end: &End, sink: &mut S) -> Result<(), Failed>
     ensures cause { HasCause (is_err result) (S.state sink.old).faults (S.state sink.new).faults }
     ensures bytes { Adds S.tells (last_text end.now) (S.state sink.old) (S.state sink.new) result }
+    ensures demo { end.now ≡ End.Demo → result ≡ Ok tt }
     ensures silent { end.now ≡ End.Demo → sink.new ≡ sink.old }
 {
     if let End::Demo = end {
@@ -27,12 +28,9 @@ pub fn last_line<S: Sink>(end: &End, sink: &mut S) -> Result<(), Failed>
 }
 
 /// Puts a line of the program, with its newline.
-fn put_named<S: Sink>(
-    parts: &[Part<'_>],
-    waiting: &mut Waiting,
-    sink: &mut S,
-) -> Result<(), Failed>
-    ensures { Puts S.tells (named_line (parts_text parts.now)) waiting.old (S.state sink.old) waiting.new (S.state sink.new) result }
+fn put_named<S: Sink>(parts: &[Part<'_>], waiting: &mut Waiting, sink: &mut S) -> Result<(), Failed>
+    ensures { Puts S.tells (named_line (parts_text parts.now))
+        waiting.old (S.state sink.old) waiting.new (S.state sink.new) result }
 {
     waiting.put(b"bisync: ", sink)?;
     waiting.put_parts(parts, sink)?;

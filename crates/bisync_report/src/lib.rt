@@ -11,6 +11,8 @@ mod parts;
 mod plan_texts;
 mod statuses;
 mod step_lines;
+#[cfg(test)]
+mod tests;
 mod waiting;
 
 pub use ends::{End, FolderCause, Need};

@@ -20,7 +20,8 @@ pub fn plan_lines<S: Sink>(
     sink: &mut S,
 ) -> Result<(), Failed>
     ensures cause { HasCause (is_err result) (S.state sink.old).faults (S.state sink.new).faults }
-    ensures bytes { Adds S.tells (plan_text (option_copied view.entry) compare.now plan.now) (S.state sink.old) (S.state sink.new) result }
+    ensures bytes { Adds S.tells (plan_text (option_copied view.entry) compare.now plan.now)
+        (S.state sink.old) (S.state sink.new) result }
 {
     let mut waiting = Waiting::new();
     put_plan(view, compare, plan, &mut waiting, sink)?;
@@ -34,7 +35,8 @@ fn put_plan<S: Sink>(
     waiting: &mut Waiting,
     sink: &mut S,
 ) -> Result<(), Failed>
-    ensures { Puts S.tells (plan_text (option_copied view.entry) compare.now plan.now) waiting.old (S.state sink.old) waiting.new (S.state sink.new) result }
+    ensures { Puts S.tells (plan_text (option_copied view.entry) compare.now plan.now)
+        waiting.old (S.state sink.old) waiting.new (S.state sink.new) result }
 {
     put_changes(view, compare, waiting, sink)?;
     put_steps(&plan.steps, waiting, sink)

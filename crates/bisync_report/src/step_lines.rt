@@ -9,12 +9,9 @@ use bisync_device::{Failed, Sink};
 use bisync_tree::Step;
 
 /// Puts one line a step.
-pub fn put_steps<S: Sink>(
-    steps: &[Step],
-    waiting: &mut Waiting,
-    sink: &mut S,
-) -> Result<(), Failed>
-    ensures { Puts S.tells (steps_text steps.now) waiting.old (S.state sink.old) waiting.new (S.state sink.new) result }
+pub fn put_steps<S: Sink>(steps: &[Step], waiting: &mut Waiting, sink: &mut S) -> Result<(), Failed>
+    ensures { Puts S.tells (steps_text steps.now)
+        waiting.old (S.state sink.old) waiting.new (S.state sink.new) result }
 {
     for step in steps {
         put_step(step, waiting, sink)?;
@@ -23,7 +20,8 @@ pub fn put_steps<S: Sink>(
 }
 
 fn put_step<S: Sink>(step: &Step, waiting: &mut Waiting, sink: &mut S) -> Result<(), Failed>
-    ensures { Puts S.tells (step_line step.now) waiting.old (S.state sink.old) waiting.new (S.state sink.new) result }
+    ensures { Puts S.tells (step_line step.now)
+        waiting.old (S.state sink.old) waiting.new (S.state sink.new) result }
 {
     match step {
         Step::Copy { from, path, .. } => waiting.put_parts(

@@ -46,7 +46,8 @@ impl Waiting {
 
     /// Gives all that waits to the sink. Where nothing waits, the sink isn't called.
     pub fn flush<S: Sink>(&mut self, sink: &mut S) -> Result<(), Failed>
-        ensures puts { Puts S.tells [] self.old (S.state sink.old) self.new (S.state sink.new) result }
+        ensures puts { Puts S.tells []
+            self.old (S.state sink.old) self.new (S.state sink.new) result }
         ensures empty { OnOk result (self.new ≡ []) }
     {
         if self.is_empty() {
@@ -59,7 +60,8 @@ impl Waiting {
 
     /// Puts bytes behind those that wait.
     pub fn put<S: Sink>(&mut self, bytes: &[u8], sink: &mut S) -> Result<(), Failed>
-        ensures { Puts S.tells bytes.now self.old (S.state sink.old) self.new (S.state sink.new) result }
+        ensures { Puts S.tells bytes.now
+            self.old (S.state sink.old) self.new (S.state sink.new) result }
     {
         if bytes.len() <= self.room() {
             self.hold(bytes);
@@ -75,7 +77,8 @@ impl Waiting {
 
     /// Puts the quoted text of bytes behind those that wait.
     pub fn put_quoted<S: Sink>(&mut self, bytes: &[u8], sink: &mut S) -> Result<(), Failed>
-        ensures { Puts S.tells (quoted bytes.now) self.old (S.state sink.old) self.new (S.state sink.new) result }
+        ensures { Puts S.tells (quoted bytes.now)
+            self.old (S.state sink.old) self.new (S.state sink.new) result }
     {
         self.put(b"\"", sink)?;
         self.put_escaped(bytes, sink)?;
@@ -83,7 +86,8 @@ impl Waiting {
     }
 
     fn put_escaped<S: Sink>(&mut self, bytes: &[u8], sink: &mut S) -> Result<(), Failed>
-        ensures { Puts S.tells (flat_map quoted_byte bytes.now) self.old (S.state sink.old) self.new (S.state sink.new) result }
+        ensures { Puts S.tells (flat_map quoted_byte bytes.now)
+            self.old (S.state sink.old) self.new (S.state sink.new) result }
     {
         for byte in bytes {
             self.put(QuotedByte::new(*byte).as_bytes(), sink)?;
@@ -92,7 +96,8 @@ impl Waiting {
     }
 
     fn put_part<S: Sink>(&mut self, part: Part<'_>, sink: &mut S) -> Result<(), Failed>
-        ensures { Puts S.tells (part_text part.entry) self.old (S.state sink.old) self.new (S.state sink.new) result }
+        ensures { Puts S.tells (part_text part.entry)
+            self.old (S.state sink.old) self.new (S.state sink.new) result }
     {
         match part {
             Part::Words(bytes) => self.put(bytes, sink),
@@ -110,7 +115,8 @@ impl Waiting {
 
     /// Puts the parts of a line behind what waits.
     pub fn put_parts<S: Sink>(&mut self, parts: &[Part<'_>], sink: &mut S) -> Result<(), Failed>
-        ensures { Puts S.tells (parts_text parts.now) self.old (S.state sink.old) self.new (S.state sink.new) result }
+        ensures { Puts S.tells (parts_text parts.now)
+            self.old (S.state sink.old) self.new (S.state sink.new) result }
     {
         for part in parts {
             self.put_part(*part, sink)?;

@@ -12,4 +12,4 @@ returns-in-Some g c =
     let all = listings_of c.in-Some.view.now in
     rw c.in-Some.is
     (subst (λ (v : List ℕ). Puts g.S.Sink.tells v c.args.waiting.now (g.S.Sink.state c.args.sink.now) c.put_cells.new.waiting (g.S.Sink.state c.put_cells.new.sink) c.put_cells.result)
-        (ap (flat_map lines) c.new.ensures.cells ∙ flat_map-map lines (cell_at all) (paths_of all)) c.put_cells.ensures)
+    (ap (flat_map lines) c.new.ensures.cells ∙ flat_map-map lines (cell_at all) (paths_of all)) c.put_cells.ensures)

@@ -12,10 +12,11 @@ returns-in_err-put_named g c =
     let after = g.S.Sink.state c.put_named.new.sink in
     let text = last_text-named c.args.end.now c.in_default.not-Demo ∙ ap named_line (sym c.parts_of.ensures) in
     let u = unflushed _ g.S.Sink.tells (named_line (parts_text c.parts_of.result)) c.new-waiting.result c.put_named.new.waiting before after _ c.from_residual.result
-        c.from_residual.ensures.1 c.new-waiting.ensures c.in_err-put_named.ensures in
+    c.from_residual.ensures.1 c.new-waiting.ensures c.in_err-put_named.ensures in
     record {
       cause = u.0;
       bytes = subst (λ (v : List ℕ). Adds g.S.Sink.tells v before after c.from_residual.result) (sym text) u.1;
+      demo = λ e. absurd (c.in_default.not-Demo e);
       silent = λ e. absurd (c.in_default.not-Demo e);
     }
 
@@ -26,9 +27,10 @@ returns g c =
     let after = g.S.Sink.state c.flush.new.sink in
     let text = last_text-named c.args.end.now c.in_default.not-Demo ∙ ap named_line (sym c.parts_of.ensures) in
     let f = flushed g.S.Sink.tells (named_line (parts_text c.parts_of.result)) c.new-waiting.result c.put_named.new.waiting c.flush.new.self before between after c.flush.result
-        c.new-waiting.ensures c.in_ok-put_named.ensures c.flush.ensures.puts c.flush.ensures.empty in
+    c.new-waiting.ensures c.in_ok-put_named.ensures c.flush.ensures.puts c.flush.ensures.empty in
     record {
       cause = f.0;
       bytes = subst (λ (v : List ℕ). Adds g.S.Sink.tells v before after c.flush.result) (sym text) f.1;
+      demo = λ e. absurd (c.in_default.not-Demo e);
       silent = λ e. absurd (c.in_default.not-Demo e);
     }
