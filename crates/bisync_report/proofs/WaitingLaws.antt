@@ -1,14 +1,12 @@
 -- What several calls put, one after the other.
-use Rattle.std.proofs.Common.{◌≡◌, ℕ, ◌+◌, ◌<◌, suc, Bool, true, false, IsTrue, List, [], ◌∷◌, ◌++◌, length, take, drop, get_or, Result, Ok, Err, OnOk, is_err, refl, sym, ◌∙◌, ap, subst, append_assoc, arith, rules}
+use Rattle.std.proofs.Common.{◌≡◌, ℕ, Bool, true, false, List, [], ◌++◌, length, take, drop, Result, Ok, Err, OnOk, is_err, refl, sym, ◌∙◌, ap, subst, append_assoc, rules}
 use Rattle.std.specs.Result.{IsErrAnd}
-use Rattle.std.specs.List.{flat_map}
 use Rattle.std.proofs.Math.Seq.{take-append_seam}
-use Rattle.std.proofs.lemmas.Grind.{flat_map-append}
 use Rattle.std.proofs.lemmas.List.{append-nil, take-append-drop}
 use Rattle.bisync_device.specs.Faults.{HasCause}
 use Rattle.bisync_device.specs.Sink.{SinkState, Adds}
 use Rattle.bisync_device.specs.declared.faults.Failed.{Failed}
-use Rattle.bisync_report.specs.Waiting.{Gives, Leaves, Puts}
+use Rattle.bisync_report.specs.Waiting.{Gives, Puts}
 
 cause_then : (failed : Bool) (a b c : ℕ) → HasCause false a b → HasCause failed b c → HasCause failed a c
 cause_then failed a b c first second = subst (λ (x : ℕ). HasCause failed x c) (first.kept refl) second

@@ -2,7 +2,7 @@
 use Rattle.std.specs.Prelude.{ℕ, List, [], ◌∷◌, ◌++◌, codes, Option, Some, None}
 use Rattle.std.specs.List.{flat_map}
 use Rattle.bisync_text.specs.Quote.{quoted}
-use Rattle.bisync_tree.specs.Rows.{PathBytes, look}
+use Rattle.bisync_tree.specs.Rows.{PathBytes}
 use Rattle.bisync_tree.specs.Side.{other}
 use Rattle.bisync_tree.specs.Walk.{CellValue, listings_of, paths_of, cell_at}
 use Rattle.bisync_tree.specs.declared.sides.Side.{Side}
