@@ -1,13 +1,14 @@
 //! The names that the losers of a run get.
 
-ghost use Rattle.std.specs.Prelude.{◌≡◌, ◌≤◌, Bool, [], length, OnOk, IfOk, Err};
+ghost use Rattle.std.specs.Prelude.{◌≡◌, ◌≤◌, Bool, [], length, flat_map, OnOk, IfOk, Err};
 ghost use Rattle.bisync_text.specs.Path.{IsPath};
 ghost use Rattle.bisync_tree.specs.Ranges.{HasSuffixes};
 ghost use Rattle.bisync_tree.specs.Rows.{PathBytes};
-ghost use Rattle.bisync_tree.specs.Walk.{listings_of, paths_of};
+ghost use Rattle.bisync_tree.specs.Walk.{cells, listings_of, paths_of};
 ghost use Rattle.bisync_model.specs.Known.{Known};
 ghost use Rattle.bisync_model.specs.Names.{AreGiven, AreNames, AreNotNames};
 ghost use Rattle.bisync_model.specs.Views.{known_of, IsNarrowed};
+ghost use Rattle.bisync_conflict.specs.Cells.{losers_in};
 ghost use Rattle.bisync_conflict.specs.Naming.{candidate_of, view_names, IsFirst, IsNamed, HasLongName, IsSettledBy, IsRefused};
 
 use crate::NameFault;
@@ -33,6 +34,17 @@ pub fn give_names(
 ) -> Result<Vec<Given>, NameFault>
     requires { HasSuffixes conflict.now }
 
+    // Of any view: the losers are those of its cells, and the names held are those of the view.
+    ensures named_cells { IfOk result (λ given. (known : Known) →
+        IsSettledBy known conflict.now (view_names view.now) →
+        AreGiven known [] (flat_map (losers_in conflict.now compare.now) (cells (listings_of view.now)))
+        given.items) }
+    ensures refused_cell { (side : Side) (path : PathBytes) → result ≡ Err (NameFault.TooLong side path) →
+        (known : Known) → IsSettledBy known conflict.now (view_names view.now) →
+        IsRefused known (flat_map (losers_in conflict.now compare.now) (cells (listings_of view.now)))
+        side path }
+
+    // Of a view whose bases are the passing parts of the full ones: these are the names of the run.
     ensures names { IfOk result (λ given. (passes : PathBytes → Bool) (window1 window2 : Window) →
         IsNarrowed passes view.now →
         AreNames (known_of conflict.now compare.now passes window1 window2 view.now)

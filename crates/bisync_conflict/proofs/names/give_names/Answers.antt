@@ -9,6 +9,17 @@ use Rattle.bisync_conflict.proofs.CellLosers.{losers_seen}
 use Rattle.bisync_conflict.proofs.NamesSoFar.{settled, refused_names}
 use Rattle.bisync_conflict.proofs.names.give_names.Goals as goal
 
+pub returns-clause-named_cells : goal.returns-clause-named_cells
+returns-clause-named_cells c =
+    IfOk-weaker {X = Vec Given Global} c.name_all.result _ _ (λ given named known settled.
+    subst (λ losers. AreGiven known [] losers given.items) (c.as_slice.ensures.value ∙ c.in_ok-losers.ensures) (named known settled))
+    c.name_all.ensures.ok
+
+pub returns-clause-refused_cell : goal.returns-clause-refused_cell
+returns-clause-refused_cell c = λ side path e known settled.
+    subst (λ losers. IsRefused known losers side path) (c.as_slice.ensures.value ∙ c.in_ok-losers.ensures)
+    (c.name_all.ensures.long side path e known settled)
+
 pub returns-clause-names : goal.returns-clause-names
 returns-clause-names c =
     let conflict = c.args.conflict.now in
