@@ -1,1 +1,1 @@
-mod CellRules
+pub mod CellRules
