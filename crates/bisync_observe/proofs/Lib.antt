@@ -1,2 +1,6 @@
 pub mod StreamLemmas
 pub mod NarrowLemmas
+pub mod RowLemmas
+pub mod AboveLemmas
+pub mod LookedLemmas
+pub mod SeenLemmas

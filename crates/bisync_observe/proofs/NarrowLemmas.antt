@@ -43,10 +43,10 @@ key_at [] i p r less k = absurd (omega arith)
 key_at (x ∷ xs) zero p r less k = cc
 key_at (x ∷ xs) (suc i) p r less k = key_at xs i p r (omega arith) k
 
-pub passing_none : (passes : PathBytes → Bool) (rows : Rows) (i : ℕ) (p : PathBytes) (r : PathBytes × Entry) → i < length rows
+none_more : (passes : PathBytes → Bool) (rows : Rows) (i : ℕ) (p : PathBytes) (r : PathBytes × Entry) → i < length rows
     → slice_get (keys rows) i ≡ Some p → passes p ≡ false
     → passing passes (take (i + 1) rows) ≡ passing passes (take i rows)
-passing_none passes rows i p r less k f =
+none_more passes rows i p r less k f =
     filter_more (λ (r : PathBytes × Entry). passes r.0) rows i r less
     ∙ ap (λ b. passing passes (take i rows) ++ cond b (get_or rows i r ∷ []) []) (ap passes (key_at rows i p r less k) ∙ f)
     ∙ append_nil (passing passes (take i rows))
@@ -54,6 +54,12 @@ passing_none passes rows i p r less k f =
     append_nil : (xs : Rows) → xs ++ [] ≡ xs
     append_nil [] = refl
     append_nil (x ∷ xs) = ap (λ ys. x ∷ ys) (append_nil xs)
+
+pub passing_none : (passes : PathBytes → Bool) (rows : Rows) (i : ℕ) (p : PathBytes) → i < length rows
+    → slice_get (keys rows) i ≡ Some p → passes p ≡ false
+    → passing passes (take (i + 1) rows) ≡ passing passes (take i rows)
+passing_none passes [] i p less k f = absurd (omega arith)
+passing_none passes (r ∷ rs) i p less k f = none_more passes (r ∷ rs) i p r less k f
 
 -- a passing row comes after those that passed before it
 pub passing_above : (passes : PathBytes → Bool) (rows : Rows) (i : ℕ) (p : PathBytes) (e : Entry) → AreRising (keys rows) → i < length rows

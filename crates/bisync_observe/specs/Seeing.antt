@@ -1,5 +1,5 @@
 -- The entries that listed rows get, and the names and the listing that come of them.
-use Rattle.std.specs.Prelude.{◌≡◌, ◌<◌, ◌≤◌, ℕ, Bool, true, false, IsTrue, List, length, Option, Some, None, is_some, ⊤, if◌then◌else◌}
+use Rattle.std.specs.Prelude.{◌≡◌, ◌<◌, ◌≤◌, ℕ, Bool, true, false, IsTrue, List, length, Option, Some, None, ⊤, if◌then◌else◌}
 use Rattle.std.specs.List.{sum_by}
 use Rattle.bisync_tree.specs.Rows.{PathBytes, Rows, keys, look, is_among}
 use Rattle.bisync_tree.specs.Tree.{Tree}
@@ -30,7 +30,7 @@ IsEntryOf tells tree hash path (Some listed) (Some entry) = IsEntryFor tells tre
 
 pub record IsSeen (tells : Bool) (tree : Tree) (hash : Bool) (passes : PathBytes → Bool) (rows : Rows) (names : List PathBytes) (listing : Rows) : Type 0 where
   -- a path is a name exactly where it has a row
-  pub among : (p : PathBytes) → is_among p names ≡ is_some (look rows p)
+  pub among : (p : PathBytes) → is_among p names ≡ is_among p (keys rows)
   pub entries : (p : PathBytes) → IsEntryOf tells tree hash p (if passes p then look rows p else None) (look listing p)
   pub few : length names ≤ length rows
   pub short : sum_by length names ≤ sum_by length (keys rows)
