@@ -32,14 +32,6 @@ or_right : (a b : Bool) → b ≡ true → (a || b) ≡ true
 or_right true b h = refl
 or_right false b h = h
 
-above_among : (p : PathBytes) (qs : List PathBytes) (n : PathBytes) → AreAbove p qs → is_among n qs ≡ true → order p n ≡ Less
-above_among p [] n h m = cc
-above_among p (q ∷ qs) n h m = go (bytes_eq n q) refl
-  where
-    go : (b : Bool) → bytes_eq n q ≡ b → order p n ≡ Less
-    go true e = subst (λ r. order p r ≡ Less) (sym (same_path n q e)) h.0
-    go false e = above_among p qs n h.1 (sym (ap (λ b. b || is_among n qs) e) ∙ m)
-
 -- the last of rising paths is below what comes after it, and so are all
 pub below_last : (qs : List PathBytes) (p n : PathBytes) → AreRising qs → IsAboveLast qs p → is_among n qs ≡ true → order n p ≡ Less
 below_last [] p n rising h m = cc
@@ -48,15 +40,13 @@ below_last (q ∷ []) p n rising h m = go (bytes_eq n q) refl
     go : (b : Bool) → bytes_eq n q ≡ b → order n p ≡ Less
     go true e = subst (λ r. order r p ≡ Less) (sym (same_path n q e)) h
     go false e = let f : (bytes_eq n q || false) ≡ false = ap (λ b. b || false) e in cc
-below_last (q ∷ r ∷ rs) p n rising h m = go (bytes_eq n q) refl
+below_last (q ∷ r ∷ rs) p n rising h m = go (λ k a. below_last (r ∷ rs) p k rising.1 h a) (bytes_eq n q) refl
   where
-    last : (k : PathBytes) → is_among k (r ∷ rs) ≡ true → order k p ≡ Less
-    last k a = below_last (r ∷ rs) p k rising.1 h a
-    go : (b : Bool) → bytes_eq n q ≡ b → order n p ≡ Less
-    go true e =
+    go : ((k : PathBytes) → is_among k (r ∷ rs) ≡ true → order k p ≡ Less) → (b : Bool) → bytes_eq n q ≡ b → order n p ≡ Less
+    go last true e =
         let next : order r p ≡ Less = last r (ap (λ b. b || is_among r rs) (path_is_itself r)) in
         subst (λ k. order k p ≡ Less) (sym (same_path n q e)) (below_trans q r p rising.0.0 next)
-    go false e = last n (sym (ap (λ b. b || is_among n (r ∷ rs)) e) ∙ m)
+    go last false e = last n (sym (ap (λ b. b || is_among n (r ∷ rs)) e) ∙ m)
 
 pub unnamed : (qs : List PathBytes) (p : PathBytes) → AreRising qs → IsAboveLast qs p → is_among p qs ≡ false
 unnamed qs p rising h = go (is_among p qs) refl
@@ -93,12 +83,12 @@ place [] more n d m = absurd (no m)
   where
     no : false ≡ true → ⊥
     no e = cc
-place (r ∷ rs) more n d m = go (bytes_eq n r.0) refl
+place (r ∷ rs) more n d m = go (λ a. place rs more n d a) (bytes_eq n r.0) refl
   where
-    go : (b : Bool) → bytes_eq n r.0 ≡ b → (i : ℕ) × (i < length (r ∷ rs)) × ((get_or (r ∷ (rs ++ more)) i d).0 ≡ n)
-    go true e = (zero, omega arith, sym (same_path n r.0 e))
-    go false e =
-        let rest = place rs more n d (sym (ap (λ b. b || is_among n (keys rs)) e) ∙ m) in
+    go : (is_among n (keys rs) ≡ true → (i : ℕ) × (i < length rs) × ((get_or (rs ++ more) i d).0 ≡ n)) → (b : Bool) → bytes_eq n r.0 ≡ b → (i : ℕ) × (i < length (r ∷ rs)) × ((get_or (r ∷ (rs ++ more)) i d).0 ≡ n)
+    go later true e = (zero, omega arith, sym (same_path n r.0 e))
+    go later false e =
+        let rest = later (sym (ap (λ b. b || is_among n (keys rs)) e) ∙ m) in
         let less = rest.1 in
         (suc rest.0, omega (arith, less), rest.2)
 

@@ -8,19 +8,19 @@ use Rattle.bisync_tree.proofs.LookLemmas.{look_is_some, look_unlisted}
 
 pub look_found : (rows more : Rows) (p : PathBytes) (e : Entry) → look rows p ≡ Some e → look (rows ++ more) p ≡ Some e
 look_found [] more p e h = let f : ◌≡◌ {A = Option Entry} None (Some e) = h in cc
-look_found (r ∷ rs) more p e h = go (bytes_eq r.0 p) refl
+look_found (r ∷ rs) more p e h = go (λ is. look_found rs more p e is) (bytes_eq r.0 p) refl
   where
-    go : (b : Bool) → bytes_eq r.0 p ≡ b → look ((r ∷ rs) ++ more) p ≡ Some e
-    go true t = ap (λ b. cond b (Some r.1) (look (rs ++ more) p)) t ∙ sym (ap (λ b. cond b (Some r.1) (look rs p)) t) ∙ h
-    go false f = ap (λ b. cond b (Some r.1) (look (rs ++ more) p)) f ∙ look_found rs more p e (sym (ap (λ b. cond b (Some r.1) (look rs p)) f) ∙ h)
+    go : (look rs p ≡ Some e → look (rs ++ more) p ≡ Some e) → (b : Bool) → bytes_eq r.0 p ≡ b → look ((r ∷ rs) ++ more) p ≡ Some e
+    go rest true t = ap (λ b. cond b (Some r.1) (look (rs ++ more) p)) t ∙ sym (ap (λ b. cond b (Some r.1) (look rs p)) t) ∙ h
+    go rest false f = ap (λ b. cond b (Some r.1) (look (rs ++ more) p)) f ∙ rest (sym (ap (λ b. cond b (Some r.1) (look rs p)) f) ∙ h)
 
 pub look_past : (rows more : Rows) (p : PathBytes) → look rows p ≡ None → look (rows ++ more) p ≡ look more p
 look_past [] more p h = refl
-look_past (r ∷ rs) more p h = go (bytes_eq r.0 p) refl
+look_past (r ∷ rs) more p h = go (λ is. look_past rs more p is) (bytes_eq r.0 p) refl
   where
-    go : (b : Bool) → bytes_eq r.0 p ≡ b → look ((r ∷ rs) ++ more) p ≡ look more p
-    go true t = let f = sym (ap (λ b. cond b (Some r.1) (look rs p)) t) ∙ h in cc
-    go false f = ap (λ b. cond b (Some r.1) (look (rs ++ more) p)) f ∙ look_past rs more p (sym (ap (λ b. cond b (Some r.1) (look rs p)) f) ∙ h)
+    go : (look rs p ≡ None → look (rs ++ more) p ≡ look more p) → (b : Bool) → bytes_eq r.0 p ≡ b → look ((r ∷ rs) ++ more) p ≡ look more p
+    go rest true t = let f = sym (ap (λ b. cond b (Some r.1) (look rs p)) t) ∙ h in cc
+    go rest false f = ap (λ b. cond b (Some r.1) (look (rs ++ more) p)) f ∙ rest (sym (ap (λ b. cond b (Some r.1) (look rs p)) f) ∙ h)
 
 -- a row of another path changes nothing
 pub look_other : (rows : Rows) (r : PathBytes × Entry) (p : PathBytes) → bytes_eq r.0 p ≡ false → look (rows ++ r ∷ []) p ≡ look rows p
