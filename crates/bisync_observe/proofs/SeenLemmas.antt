@@ -11,7 +11,7 @@ use Rattle.bisync_tree.specs.Tree.{Tree}
 use Rattle.bisync_tree.specs.declared.entries.Entry.{Entry}
 use Rattle.bisync_tree.proofs.PathOrder.{order, path_is_itself, same_path}
 use Rattle.bisync_tree.proofs.LookLemmas.{look_is_some, look_unlisted}
-use Rattle.bisync_tree.proofs.SearchLemmas.{keys_push, rising_push}
+use Rattle.bisync_tree.proofs.SearchLemmas.{keys_push, rising_push, rising_rows_push}
 use Rattle.bisync_observe.specs.FileReading.{OnlyReads, HasBytes, LacksSize}
 use Rattle.bisync_observe.specs.Listed.{AreInOrder}
 use Rattle.bisync_observe.specs.Seeing.{IsSeen, IsEntryOf, IsEntryFor}
@@ -23,7 +23,6 @@ pub record Seeing (tells : Bool) (hash : Bool) (passes : PathBytes → Bool) (ro
   pub done : Rows
   pub split : rows ≡ done ++ rest
   pub seen : IsSeen tells start.tree hash passes done names listing
-  pub rising : AreRising names
   pub kept : OnlyReads tells start now
   pub faults : now.faults ≡ start.faults
 
@@ -73,6 +72,8 @@ seen_again : (tells : Bool) (tree : Tree) (hash : Bool) (passes : PathBytes → 
 seen_again tells tree hash passes done names listing r seen named =
     let there : is_among r.0 (keys done) ≡ true = sym (seen.among r.0) ∙ named in
     record {
+      names_rise = seen.names_rise;
+      listing_rises = seen.listing_rises;
       among = λ p. among_again p names done r (seen.among p) there;
       entries = λ p. subst (λ v. IsEntryOf tells tree hash p (cond (passes p) v None) (look listing p)) (sym (look_again done r p there)) (seen.entries p);
       few = same_or_more _ _ _ _ seen.few (row_count done r);
@@ -87,10 +88,12 @@ among_new n names done r same =
     among_push n names r.0 ∙ ap (λ b. b || bytes_eq n r.0) same ∙ sym (among_push n (keys done) r.0) ∙ sym (ap (is_among n) (keys_push done r.0 r.1))
 
 new_row : (tells : Bool) (tree : Tree) (hash : Bool) (passes : PathBytes → Bool) (done : Rows) (names : List PathBytes) (listing next : Rows) (r : PathBytes × Entry)
-    → IsSeen tells tree hash passes done names listing
+    → IsSeen tells tree hash passes done names listing → IsAboveLast names r.0 → AreRising (keys next)
     → ((p : PathBytes) → IsEntryOf tells tree hash p (cond (passes p) (look (done ++ r ∷ []) p) None) (look next p))
     → IsSeen tells tree hash passes (done ++ r ∷ []) (names ++ r.0 ∷ []) next
-new_row tells tree hash passes done names listing next r seen entries = record {
+new_row tells tree hash passes done names listing next r seen above rises entries = record {
+  names_rise = rising_push names r.0 seen.names_rise above;
+  listing_rises = rises;
   among = λ p. among_new p names done r (seen.among p);
   entries = entries;
   few = both_more _ _ _ _ 1 seen.few (row_count done r) (row_count names r.0);
@@ -98,9 +101,9 @@ new_row tells tree hash passes done names listing next r seen entries = record {
 }
 
 seen_name : (tells : Bool) (tree : Tree) (hash : Bool) (passes : PathBytes → Bool) (done : Rows) (names : List PathBytes) (listing : Rows) (r : PathBytes × Entry)
-    → IsSeen tells tree hash passes done names listing → passes r.0 ≡ false → IsSeen tells tree hash passes (done ++ r ∷ []) (names ++ r.0 ∷ []) listing
-seen_name tells tree hash passes done names listing r seen fails =
-    new_row tells tree hash passes done names listing listing r seen (λ p. subst (λ v. IsEntryOf tells tree hash p v (look listing p)) (sym (same p)) (seen.entries p))
+    → IsSeen tells tree hash passes done names listing → IsAboveLast names r.0 → passes r.0 ≡ false → IsSeen tells tree hash passes (done ++ r ∷ []) (names ++ r.0 ∷ []) listing
+seen_name tells tree hash passes done names listing r seen above fails =
+    new_row tells tree hash passes done names listing listing r seen above seen.listing_rises (λ p. subst (λ v. IsEntryOf tells tree hash p v (look listing p)) (sym (same p)) (seen.entries p))
   where
     same : (p : PathBytes) → cond (passes p) (look (done ++ r ∷ []) p) None ≡ cond (passes p) (look done p) None
     same p = go (bytes_eq r.0 p) refl
@@ -117,36 +120,6 @@ no_source : (b : Bool) (v : Option Entry) → v ≡ None → cond b v None ≡ N
 no_source true v is = is
 no_source false v is = refl
 
-is_row : (p q : PathBytes) (listing : Rows) (e : Entry) → p ≡ q → look listing p ≡ None → look (listing ++ (p, e) ∷ []) q ≡ Some e
-is_row p q listing e same absent = subst (λ q. look (listing ++ (p, e) ∷ []) q ≡ Some e) same (look_next listing [] (p, e) (unamong (is_among p (keys listing)) refl))
-  where
-    unamong : (b : Bool) → is_among p (keys listing) ≡ b → b ≡ false
-    unamong false t = refl
-    unamong true t = let f : is_some (look listing p) ≡ true = look_is_some listing p ∙ t in let n : is_some (look listing p) ≡ false = ap is_some absent in cc
-
-seen_listed : (tells : Bool) (tree : Tree) (hash : Bool) (passes : PathBytes → Bool) (done : Rows) (names : List PathBytes) (listing : Rows) (r : PathBytes × Entry) (e : Entry)
-    → IsSeen tells tree hash passes done names listing → is_among r.0 names ≡ false → passes r.0 ≡ true → IsEntryFor tells tree hash r.0 r.1 e
-    → IsSeen tells tree hash passes (done ++ r ∷ []) (names ++ r.0 ∷ []) (listing ++ (r.0, e) ∷ [])
-seen_listed tells tree hash passes done names listing r e seen new passed entry =
-    new_row tells tree hash passes done names listing (listing ++ (r.0, e) ∷ []) r seen (λ p. go p (bytes_eq r.0 p) refl)
-  where
-    absent : is_among r.0 (keys done) ≡ false
-    absent = sym (seen.among r.0) ∙ new
-    source : cond (passes r.0) (look done r.0) None ≡ None
-    source = no_source (passes r.0) (look done r.0) (look_unlisted done r.0 absent)
-    unlisted_before : look listing r.0 ≡ None
-    unlisted_before = unlisted tells tree hash r.0 (look listing r.0) (subst (λ v. IsEntryOf tells tree hash r.0 v (look listing r.0)) source (seen.entries r.0))
-    now_row : cond (passes r.0) (look (done ++ r ∷ []) r.0) None ≡ Some r.1
-    now_row = ap (λ b. cond b (look (done ++ r ∷ []) r.0) None) passed ∙ look_next done [] r absent
-    here : IsEntryOf tells tree hash r.0 (cond (passes r.0) (look (done ++ r ∷ []) r.0) None) (look (listing ++ (r.0, e) ∷ []) r.0)
-    here = subst (λ v. IsEntryOf tells tree hash r.0 v (look (listing ++ (r.0, e) ∷ []) r.0)) (sym now_row)
-        (subst (λ w. IsEntryOf tells tree hash r.0 (Some r.1) w) (sym (is_row r.0 r.0 listing e refl unlisted_before)) entry)
-    go : (p : PathBytes) (b : Bool) → bytes_eq r.0 p ≡ b → IsEntryOf tells tree hash p (cond (passes p) (look (done ++ r ∷ []) p) None) (look (listing ++ (r.0, e) ∷ []) p)
-    go p true same = subst (λ q. IsEntryOf tells tree hash q (cond (passes q) (look (done ++ r ∷ []) q) None) (look (listing ++ (r.0, e) ∷ []) q)) (same_path r.0 p same) here
-    go p false other =
-        subst (λ v. IsEntryOf tells tree hash p (cond (passes p) v None) (look (listing ++ (r.0, e) ∷ []) p)) (sym (look_other done r p other))
-          (subst (λ w. IsEntryOf tells tree hash p (cond (passes p) (look done p) None) w) (sym (look_other listing (r.0, e) p other)) (seen.entries p))
-
 none_some : (e : Entry) → ◌≡◌ {A = Option Entry} None (Some e) → ⊥
 none_some e f = cc
 
@@ -162,6 +135,47 @@ listed_named tells tree hash passes done names listing p e seen is = go (passes 
     go true None passed row = absurd (no_row (no_source (passes p) (look done p) row))
     go false v failed row = absurd (no_row (ap (λ b. cond b (look done p) None) failed))
 
+-- a passing path comes after the listed ones
+pub listing_above : (tells : Bool) (tree : Tree) (hash : Bool) (passes : PathBytes → Bool) (done : Rows) (names : List PathBytes) (listing : Rows) (p : PathBytes)
+    → IsSeen tells tree hash passes done names listing → IsAboveLast names p → IsAboveLast (keys listing) p
+listing_above tells tree hash passes done names listing p seen above =
+    above_each (keys listing) p (λ n m. below_last names p n seen.names_rise above (is_name n (look listing n) refl (look_is_some listing n ∙ m)))
+  where
+    is_name : (n : PathBytes) (v : Option Entry) → look listing n ≡ v → is_some (look listing n) ≡ true → is_among n names ≡ true
+    is_name n (Some e) is there = (listed_named tells tree hash passes done names listing n e seen is).1
+    is_name n None is there = let f : is_some (look listing n) ≡ false = ap is_some is in cc
+
+is_row : (p q : PathBytes) (listing : Rows) (e : Entry) → p ≡ q → look listing p ≡ None → look (listing ++ (p, e) ∷ []) q ≡ Some e
+is_row p q listing e same absent = subst (λ q. look (listing ++ (p, e) ∷ []) q ≡ Some e) same (look_next listing [] (p, e) (unamong (is_among p (keys listing)) refl))
+  where
+    unamong : (b : Bool) → is_among p (keys listing) ≡ b → b ≡ false
+    unamong false t = refl
+    unamong true t = let f : is_some (look listing p) ≡ true = look_is_some listing p ∙ t in let n : is_some (look listing p) ≡ false = ap is_some absent in cc
+
+seen_listed : (tells : Bool) (tree : Tree) (hash : Bool) (passes : PathBytes → Bool) (done : Rows) (names : List PathBytes) (listing : Rows) (r : PathBytes × Entry) (e : Entry)
+    → IsSeen tells tree hash passes done names listing → IsAboveLast names r.0 → passes r.0 ≡ true → IsEntryFor tells tree hash r.0 r.1 e
+    → IsSeen tells tree hash passes (done ++ r ∷ []) (names ++ r.0 ∷ []) (listing ++ (r.0, e) ∷ [])
+seen_listed tells tree hash passes done names listing r e seen above passed entry =
+    new_row tells tree hash passes done names listing (listing ++ (r.0, e) ∷ []) r seen above
+      (rising_rows_push listing r.0 e seen.listing_rises (listing_above tells tree hash passes done names listing r.0 seen above)) (λ p. go p (bytes_eq r.0 p) refl)
+  where
+    absent : is_among r.0 (keys done) ≡ false
+    absent = sym (seen.among r.0) ∙ unnamed names r.0 seen.names_rise above
+    source : cond (passes r.0) (look done r.0) None ≡ None
+    source = no_source (passes r.0) (look done r.0) (look_unlisted done r.0 absent)
+    unlisted_before : look listing r.0 ≡ None
+    unlisted_before = unlisted tells tree hash r.0 (look listing r.0) (subst (λ v. IsEntryOf tells tree hash r.0 v (look listing r.0)) source (seen.entries r.0))
+    now_row : cond (passes r.0) (look (done ++ r ∷ []) r.0) None ≡ Some r.1
+    now_row = ap (λ b. cond b (look (done ++ r ∷ []) r.0) None) passed ∙ look_next done [] r absent
+    here : IsEntryOf tells tree hash r.0 (cond (passes r.0) (look (done ++ r ∷ []) r.0) None) (look (listing ++ (r.0, e) ∷ []) r.0)
+    here = subst (λ v. IsEntryOf tells tree hash r.0 v (look (listing ++ (r.0, e) ∷ []) r.0)) (sym now_row)
+        (subst (λ w. IsEntryOf tells tree hash r.0 (Some r.1) w) (sym (is_row r.0 r.0 listing e refl unlisted_before)) entry)
+    go : (p : PathBytes) (b : Bool) → bytes_eq r.0 p ≡ b → IsEntryOf tells tree hash p (cond (passes p) (look (done ++ r ∷ []) p) None) (look (listing ++ (r.0, e) ∷ []) p)
+    go p true same = subst (λ q. IsEntryOf tells tree hash q (cond (passes q) (look (done ++ r ∷ []) q) None) (look (listing ++ (r.0, e) ∷ []) q)) (same_path r.0 p same) here
+    go p false other =
+        subst (λ v. IsEntryOf tells tree hash p (cond (passes p) v None) (look (listing ++ (r.0, e) ∷ []) p)) (sym (look_other done r p other))
+          (subst (λ w. IsEntryOf tells tree hash p (cond (passes p) (look done p) None) w) (sym (look_other listing (r.0, e) p other)) (seen.entries p))
+
 -- STEPS
 
 pub skipped : (tells : Bool) (hash : Bool) (passes : PathBytes → Bool) (rows rest next : Rows) (start now : RemoteState) (names : List PathBytes) (listing : Rows) (r : PathBytes × Entry)
@@ -172,7 +186,6 @@ skipped tells hash passes rows rest next start now names listing r s ordered is 
   split = s.split ∙ more s.done rest next r is;
   seen = seen_again tells start.tree hash passes s.done names listing r s.seen
     (among_not_above names r.0 not_above (λ n m. not_below s.done next r n (subst AreInOrder (s.split ∙ ap (λ l. s.done ++ l) is) ordered) (sym (s.seen.among n) ∙ m)));
-  rising = s.rising;
   kept = s.kept;
   faults = s.faults;
 }
@@ -183,8 +196,7 @@ pub named : (tells : Bool) (hash : Bool) (passes : PathBytes → Bool) (rows res
 named tells hash passes rows rest next start now names listing r s is above fails = record {
   done = s.done ++ r ∷ [];
   split = s.split ∙ more s.done rest next r is;
-  seen = seen_name tells start.tree hash passes s.done names listing r s.seen fails;
-  rising = rising_push names r.0 s.rising above;
+  seen = seen_name tells start.tree hash passes s.done names listing r s.seen above fails;
   kept = s.kept;
   faults = s.faults;
 }
@@ -196,28 +208,17 @@ pub listed : (tells : Bool) (hash : Bool) (passes : PathBytes → Bool) (rows re
 listed tells hash passes rows rest next start now names listing r e s is above passed after entry kept faults = record {
   done = s.done ++ r ∷ [];
   split = s.split ∙ more s.done rest next r is;
-  seen = seen_listed tells start.tree hash passes s.done names listing r e s.seen (unnamed names r.0 s.rising above) passed (entry_at_start tells hash start now r.0 r.1 e s.kept entry);
-  rising = rising_push names r.0 s.rising above;
+  seen = seen_listed tells start.tree hash passes s.done names listing r e s.seen above passed (entry_at_start tells hash start now r.0 r.1 e s.kept entry);
   kept = kept_more tells start now after s.kept kept;
   faults = faults ∙ s.faults;
 }
-
--- a passing path comes after the listed ones
-pub listing_above : (tells : Bool) (hash : Bool) (passes : PathBytes → Bool) (rows rest : Rows) (start now : RemoteState) (names : List PathBytes) (listing : Rows) (p : PathBytes)
-    → Seeing tells hash passes rows rest start now names listing → IsAboveLast names p → IsAboveLast (keys listing) p
-listing_above tells hash passes rows rest start now names listing p s above =
-    above_each (keys listing) p (λ n m. below_last names p n s.rising above (is_name n (look listing n) refl (look_is_some listing n ∙ m)))
-  where
-    is_name : (n : PathBytes) (v : Option Entry) → look listing n ≡ v → is_some (look listing n) ≡ true → is_among n names ≡ true
-    is_name n (Some e) is there = (listed_named tells start.tree hash passes s.done names listing n e s.seen is).1
-    is_name n None is there = let f : is_some (look listing n) ≡ false = ap is_some is in cc
 
 -- a new path has the row that is next
 pub next_row : (tells : Bool) (hash : Bool) (passes : PathBytes → Bool) (rows rest next : Rows) (start now : RemoteState) (names : List PathBytes) (listing : Rows) (r : PathBytes × Entry)
     → Seeing tells hash passes rows rest start now names listing → rest ≡ r ∷ next → IsAboveLast names r.0 → look rows r.0 ≡ Some r.1
 next_row tells hash passes rows rest next start now names listing r s is above =
     ap (λ (l : Rows). look l r.0) (s.split ∙ ap (λ l. s.done ++ l) is)
-    ∙ look_next s.done next r (sym (s.seen.among r.0) ∙ unnamed names r.0 s.rising above)
+    ∙ look_next s.done next r (sym (s.seen.among r.0) ∙ unnamed names r.0 s.seen.names_rise above)
 
 pub seeing_at : (tells : Bool) (hash : Bool) (passes : PathBytes → Bool) (rows rest : Rows) (start now after : RemoteState) (names all : List PathBytes) (listing whole : Rows)
     → after ≡ now → all ≡ names → whole ≡ listing → Seeing tells hash passes rows rest start now names listing → Seeing tells hash passes rows rest start after all whole

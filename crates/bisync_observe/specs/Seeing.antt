@@ -1,7 +1,7 @@
 -- The entries that listed rows get, and the names and the listing that come of them.
 use Rattle.std.specs.Prelude.{◌≡◌, ◌<◌, ◌≤◌, ℕ, Bool, true, false, IsTrue, List, length, Option, Some, None, ⊤, if◌then◌else◌}
 use Rattle.std.specs.List.{sum_by}
-use Rattle.bisync_tree.specs.Rows.{PathBytes, Rows, keys, look, is_among}
+use Rattle.bisync_tree.specs.Rows.{PathBytes, Rows, keys, look, is_among, AreRising}
 use Rattle.bisync_tree.specs.Tree.{Tree}
 use Rattle.bisync_tree.specs.declared.entries.Entry.{Entry}
 use Rattle.bisync_tree.specs.declared.entries.Compare.{Compare}
@@ -29,6 +29,8 @@ IsEntryOf tells tree hash path (Some listed) None = ⊥
 IsEntryOf tells tree hash path (Some listed) (Some entry) = IsEntryFor tells tree hash path listed entry
 
 pub record IsSeen (tells : Bool) (tree : Tree) (hash : Bool) (passes : PathBytes → Bool) (rows : Rows) (names : List PathBytes) (listing : Rows) : Type 0 where
+  pub names_rise : AreRising names
+  pub listing_rises : AreRising (keys listing)
   -- a path is a name exactly where it has a row
   pub among : (p : PathBytes) → is_among p names ≡ is_among p (keys rows)
   pub entries : (p : PathBytes) → IsEntryOf tells tree hash p (if passes p then look rows p else None) (look listing p)

@@ -60,7 +60,10 @@ pub fn observe<R: Remote>(
         Err(ListFault::Failed) => return Err(ObserveFault::RemoteFault),
         Err(ListFault::OutOfMemory) => return Err(ObserveFault::OutOfMemory),
     }
-    let mut rows = read_rows(alloc, items)?;
+    let mut rows = match read_rows(alloc, items) {
+        Ok(rows) => rows,
+        Err(fault) => return Err(fault),
+    };
     if let Err(count) = check_limits(&rows, limits) {
         return Err(ObserveFault::TooMany(count.files, count.bytes));
     }

@@ -37,7 +37,8 @@ pub fn see_rows<R: Remote>(
     ensures unseen { IfErr result (λ fault. IsWhyUnseen R.tells (R.state remote.old).tree compare.now (rules_pass rules.now) rows.items fault) }
 {
     let mut filter = PathFilter::new(rules);
-    let mut buffer = read_buffer(alloc, compare.hash)?;
+    let mut bytes = read_buffer(alloc, compare.hash)?;
+    let buffer = bytes.as_mut_slice();
     let mut names = Names::new(alloc);
     let mut listing = Listing::new(alloc);
     for (path, listed) in rows {
@@ -45,7 +46,7 @@ pub fn see_rows<R: Remote>(
             continue;
         }
         if filter.passes(&path) {
-            let entry = match entry(remote, &path, listed, compare.hash, &mut buffer) {
+            let entry = match entry(remote, &path, listed, compare.hash, buffer) {
                 Ok(entry) => entry,
                 Err(ReadFault::Failed) => return Err(ObserveFault::RemoteFault),
                 Err(ReadFault::Moved(read)) => return Err(ObserveFault::Moved(path, listed, read)),

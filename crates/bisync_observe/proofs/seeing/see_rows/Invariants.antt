@@ -10,5 +10,5 @@ invariant-loop-path g l =
     (goal.iterator-loop-path g).can_next l.path-iterator ×
     (goal.iterator-loop-path g).is_finite l.path-iterator ×
     (l.filter.rules.now ≡ l.rules) ×
-    IsRoom l.compare.hash l.buffer.items ×
+    IsRoom l.compare.hash l.buffer ×
     Seeing g.R.Remote.tells l.compare.hash (rules_pass l.rules) l.fn.rows.items (into_iter_items l.path-iterator) (g.R.Remote.state l.initial.remote) (g.R.Remote.state l.remote) l.names l.listing
