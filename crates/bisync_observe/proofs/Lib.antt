@@ -4,3 +4,5 @@ pub mod RowLemmas
 pub mod AboveLemmas
 pub mod LookedLemmas
 pub mod SeenLemmas
+pub mod TreeLemmas
+pub mod ViewLemmas

@@ -64,8 +64,9 @@ pub fn observe<R: Remote>(
         Ok(rows) => rows,
         Err(fault) => return Err(fault),
     };
-    if let Err(count) = check_limits(&rows, limits) {
-        return Err(ObserveFault::TooMany(count.files, count.bytes));
+    match check_limits(&rows, limits) {
+        Ok(()) => {}
+        Err(count) => return Err(ObserveFault::TooMany(count.files, count.bytes)),
     }
     put_in_order(&mut rows)?;
     see_rows(alloc, remote, rules, compare, rows)
