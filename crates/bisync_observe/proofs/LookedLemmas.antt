@@ -37,6 +37,7 @@ look_again rows r p there = go (bytes_eq r.0 p) refl
     found : (v : Option Entry) → look rows r.0 ≡ v → look (rows ++ r ∷ []) r.0 ≡ look rows r.0
     found (Some e) is = look_found rows (r ∷ []) r.0 e is ∙ sym is
     found None is = let f : false ≡ is_among r.0 (keys rows) = sym (ap is_some is) ∙ look_is_some rows r.0 in cc
+
     go : (b : Bool) → bytes_eq r.0 p ≡ b → look (rows ++ r ∷ []) p ≡ look rows p
     go true same = subst (λ q. look (rows ++ r ∷ []) q ≡ look rows q) (same_path r.0 p same) (found (look rows r.0) refl)
     go false other = look_other rows r p other

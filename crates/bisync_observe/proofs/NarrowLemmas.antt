@@ -68,5 +68,5 @@ pub passing_above : (passes : PathBytes → Bool) (rows : Rows) (i : ℕ) (p : P
 passing_above passes rows i p e rising less k v t =
     let whole : AreRising (keys (passing passes (take (i + 1) rows))) = passing_rising passes (take (i + 1) rows) (rising_front (i + 1) rows rising) in
     let split : keys (passing passes (take (i + 1) rows)) ≡ keys (passing passes (take i rows)) ++ p ∷ [] =
-          ap (λ (rs : Rows). keys rs) (passing_one passes rows i p e less k v t) ∙ keys_push (passing passes (take i rows)) p e in
+    ap (λ (rs : Rows). keys rs) (passing_one passes rows i p e less k v t) ∙ keys_push (passing passes (take i rows)) p e in
     rising_last (keys (passing passes (take i rows))) p (subst AreRising split whole)

@@ -25,11 +25,11 @@ pub one_more : (items before rest next : List Item) (old new : Rows) (item : Ite
     → path ≡ item.path → IsPath item.path → entry ≡ (row_of item).1 → new ≡ old ++ (path, entry) ∷ []
     → (x : List Item) × (items ≡ x ++ next) × All (λ (i : Item). IsPath i.path) x × (new ≡ rows_of x)
 one_more items before rest next old new item path entry split is_rest paths is_old is_path good is_entry is_new = (
-    before ++ item ∷ [],
-    split ∙ ap (λ l. before ++ l) is_rest ∙ sym (append_assoc before (item ∷ []) next),
-    All-append (λ (i : Item). IsPath i.path) before (item ∷ []) paths (one item good),
-    is_new ∙ (λ i. is_old i ++ (is_path i, is_entry i) ∷ []) ∙ sym (rows_push before item),
-  )
+  before ++ item ∷ [],
+  split ∙ ap (λ l. before ++ l) is_rest ∙ sym (append_assoc before (item ∷ []) next),
+  All-append (λ (i : Item). IsPath i.path) before (item ∷ []) paths (one item good),
+  is_new ∙ (λ i. is_old i ++ (is_path i, is_entry i) ∷ []) ∙ sym (rows_push before item),
+)
   where
     one : (x : Item) → IsPath x.path → All (λ (i : Item). IsPath i.path) (x ∷ [])
     one x h = λ k d less. grind (arith, elements)
@@ -66,7 +66,7 @@ in_order listed rows permutation sorted stable = record {
   ordered = sorted;
   permutation = permutation;
   first = λ p.
-    sym (look_filter (ties is_below (p, any_entry)) rows p (ties_itself p any_entry))
-    ∙ ap (λ (rs : Rows). look rs p) (stable (p, any_entry))
-    ∙ look_filter (ties is_below (p, any_entry)) listed p (ties_itself p any_entry);
+      sym (look_filter (ties is_below (p, any_entry)) rows p (ties_itself p any_entry))
+      ∙ ap (λ (rs : Rows). look rs p) (stable (p, any_entry))
+      ∙ look_filter (ties is_below (p, any_entry)) listed p (ties_itself p any_entry);
 }

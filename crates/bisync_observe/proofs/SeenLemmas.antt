@@ -63,6 +63,7 @@ among_again n names done r same there = same ∙ go (bytes_eq n r.0) refl ∙ sy
     or_false : (b : Bool) → b ≡ (b || false)
     or_false true = refl
     or_false false = refl
+
     go : (b : Bool) → bytes_eq n r.0 ≡ b → is_among n (keys done) ≡ (is_among n (keys done) || bytes_eq n r.0)
     go true e = subst (λ b. b ≡ (b || bytes_eq n r.0)) (sym (ap (λ q. is_among q (keys done)) (same_path n r.0 e) ∙ there)) refl
     go false e = or_false (is_among n (keys done)) ∙ ap (λ b. is_among n (keys done) || b) (sym e)
@@ -130,6 +131,7 @@ listed_named tells tree hash passes done names listing p e seen is = go (passes 
   where
     no_row : cond (passes p) (look done p) None ≡ None → ⊥
     no_row none = none_some e (sym (unlisted tells tree hash p (look listing p) (subst (λ v. IsEntryOf tells tree hash p v (look listing p)) none (seen.entries p))) ∙ is)
+
     go : (b : Bool) (v : Option Entry) → passes p ≡ b → look done p ≡ v → (passes p ≡ true) × (is_among p names ≡ true)
     go true (Some listed) passed row = (passed, seen.among p ∙ sym (look_is_some done p) ∙ ap is_some row)
     go true None passed row = absurd (no_row (no_source (passes p) (look done p) row))
@@ -157,24 +159,29 @@ seen_listed : (tells : Bool) (tree : Tree) (hash : Bool) (passes : PathBytes →
     → IsSeen tells tree hash passes (done ++ r ∷ []) (names ++ r.0 ∷ []) (listing ++ (r.0, e) ∷ [])
 seen_listed tells tree hash passes done names listing r e seen above passed entry =
     new_row tells tree hash passes done names listing (listing ++ (r.0, e) ∷ []) r seen above
-      (rising_rows_push listing r.0 e seen.listing_rises (listing_above tells tree hash passes done names listing r.0 seen above)) (λ p. go p (bytes_eq r.0 p) refl)
+    (rising_rows_push listing r.0 e seen.listing_rises (listing_above tells tree hash passes done names listing r.0 seen above)) (λ p. go p (bytes_eq r.0 p) refl)
   where
     absent : is_among r.0 (keys done) ≡ false
     absent = sym (seen.among r.0) ∙ unnamed names r.0 seen.names_rise above
+
     source : cond (passes r.0) (look done r.0) None ≡ None
     source = no_source (passes r.0) (look done r.0) (look_unlisted done r.0 absent)
+
     unlisted_before : look listing r.0 ≡ None
     unlisted_before = unlisted tells tree hash r.0 (look listing r.0) (subst (λ v. IsEntryOf tells tree hash r.0 v (look listing r.0)) source (seen.entries r.0))
+
     now_row : cond (passes r.0) (look (done ++ r ∷ []) r.0) None ≡ Some r.1
     now_row = ap (λ b. cond b (look (done ++ r ∷ []) r.0) None) passed ∙ look_next done [] r absent
+
     here : IsEntryOf tells tree hash r.0 (cond (passes r.0) (look (done ++ r ∷ []) r.0) None) (look (listing ++ (r.0, e) ∷ []) r.0)
     here = subst (λ v. IsEntryOf tells tree hash r.0 v (look (listing ++ (r.0, e) ∷ []) r.0)) (sym now_row)
         (subst (λ w. IsEntryOf tells tree hash r.0 (Some r.1) w) (sym (is_row r.0 r.0 listing e refl unlisted_before)) entry)
+
     go : (p : PathBytes) (b : Bool) → bytes_eq r.0 p ≡ b → IsEntryOf tells tree hash p (cond (passes p) (look (done ++ r ∷ []) p) None) (look (listing ++ (r.0, e) ∷ []) p)
     go p true same = subst (λ q. IsEntryOf tells tree hash q (cond (passes q) (look (done ++ r ∷ []) q) None) (look (listing ++ (r.0, e) ∷ []) q)) (same_path r.0 p same) here
     go p false other =
         subst (λ v. IsEntryOf tells tree hash p (cond (passes p) v None) (look (listing ++ (r.0, e) ∷ []) p)) (sym (look_other done r p other))
-          (subst (λ w. IsEntryOf tells tree hash p (cond (passes p) (look done p) None) w) (sym (look_other listing (r.0, e) p other)) (seen.entries p))
+        (subst (λ w. IsEntryOf tells tree hash p (cond (passes p) (look done p) None) w) (sym (look_other listing (r.0, e) p other)) (seen.entries p))
 
 -- STEPS
 
@@ -185,7 +192,7 @@ skipped tells hash passes rows rest next start now names listing r s ordered is 
   done = s.done ++ r ∷ [];
   split = s.split ∙ more s.done rest next r is;
   seen = seen_again tells start.tree hash passes s.done names listing r s.seen
-    (among_not_above names r.0 not_above (λ n m. not_below s.done next r n (subst AreInOrder (s.split ∙ ap (λ l. s.done ++ l) is) ordered) (sym (s.seen.among n) ∙ m)));
+      (among_not_above names r.0 not_above (λ n m. not_below s.done next r n (subst AreInOrder (s.split ∙ ap (λ l. s.done ++ l) is) ordered) (sym (s.seen.among n) ∙ m)));
   kept = s.kept;
   faults = s.faults;
 }
@@ -224,5 +231,5 @@ pub seeing_at : (tells : Bool) (hash : Bool) (passes : PathBytes → Bool) (rows
     → after ≡ now → all ≡ names → whole ≡ listing → Seeing tells hash passes rows rest start now names listing → Seeing tells hash passes rows rest start after all whole
 seeing_at tells hash passes rows rest start now after names all listing whole is_now is_names is_listing s =
     subst (λ a. Seeing tells hash passes rows rest start a all whole) (sym is_now)
-      (subst (λ n. Seeing tells hash passes rows rest start now n whole) (sym is_names)
-        (subst (λ l. Seeing tells hash passes rows rest start now names l) (sym is_listing) s))
+    (subst (λ n. Seeing tells hash passes rows rest start now n whole) (sym is_names)
+    (subst (λ l. Seeing tells hash passes rows rest start now names l) (sym is_listing) s))

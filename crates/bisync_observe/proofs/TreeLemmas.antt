@@ -95,7 +95,7 @@ tree_look tree p = look-listing_of bare (λ p. true) tree p
 pub look_items : (tree : Tree) (items : List Item) (p : PathBytes) → IsPermutation items (items_of tree) → look (rows_of items) p ≡ option_map bare_entry (file_at tree p)
 look_items tree items p moved =
     look_permutation (rows_of items) (rows_of (items_of tree)) p (IsPermutation-map row_of items (items_of tree) moved)
-      (subst (λ (rows : Rows). AreRising (keys rows)) (sym (tree_is tree)) (listing_rising bare (λ p. true) tree))
+    (subst (λ (rows : Rows). AreRising (keys rows)) (sym (tree_is tree)) (listing_rising bare (λ p. true) tree))
     ∙ ap (λ (rows : Rows). look rows p) (tree_is tree)
     ∙ tree_look tree p
 
@@ -134,6 +134,7 @@ all_at before later item all = subst (λ (i : Item). IsPath i.path) (at before) 
     at : (xs : List Item) → get_or (xs ++ item ∷ later) (length xs) item ≡ item
     at [] = refl
     at (x ∷ xs) = at xs
+
     less : (xs : List Item) → length xs < length (xs ++ item ∷ later)
     less xs = grind (arith, common_steps)
 

@@ -45,11 +45,12 @@ pub within : (limits : Limits) (listed rows : Rows) (names : List PathBytes) →
 within limits listed rows names limited order few short = record {
   few = count (length_permutation listed rows order.permutation) limited.few;
   short = name_limit (sum_by length names) (sum_by length (keys listed)) limits.names
-    (sum (sum_by-IsPermutation length (keys listed) (keys rows) (IsPermutation-map (λ (r : PathBytes × Entry). r.0) listed rows order.permutation))) limited.short;
+      (sum (sum_by-IsPermutation length (keys listed) (keys rows) (IsPermutation-map (λ (r : PathBytes × Entry). r.0) listed rows order.permutation))) limited.short;
 }
   where
     count : length rows ≡ length listed → length listed ≤ limits.files → length names ≤ limits.files
     count e h = omega arith
+
     sum : sum_by length (keys rows) ≡ sum_by length (keys listed) → sum_by length names ≤ sum_by length (keys listed)
     sum e = omega arith
 
@@ -65,13 +66,13 @@ digests tells tree hash passes rows names listing none seen p e is = go (passes 
   where
     absurd_none : ◌≡◌ {A = Option Entry} (Some e) None → ⊥
     absurd_none f = cc
+
     go : (b : Bool) (v : Option Entry) → look rows p ≡ v → IsEntryOf tells tree hash p (cond b v None) (Some e) → is_some e.hash ≡ hash
     go true (Some row) row_is entry = has_digest tells tree hash p row e (none p row row_is) entry
     go true None row_is entry = absurd (absurd_none entry)
     go false v row_is entry = absurd (absurd_none entry)
 
 -- A TREE THAT IS TOLD
-
 
 some_file : (tree : Tree) (p : PathBytes) (file other : File) → file_at tree p ≡ Some file → file_at tree p ≡ Some other → other ≡ file
 some_file tree p file other is too = cc
@@ -95,10 +96,10 @@ pub seen_of : (tells : Bool) (c : Compare) (passes : PathBytes → Bool) (tree :
     → ((p : PathBytes) → look rows p ≡ option_map bare_entry (file_at tree p)) → IsSeen tells tree c.hash passes rows names listing → IsTrue tells → IsSeenOf c passes tree names listing
 seen_of tells c passes tree rows names listing told seen t = record {
   names = rising_same names (paths_in tree) seen.names_rise (paths_rising tree)
-    (λ n. seen.among n ∙ sym (look_is_some rows n) ∙ ap is_some (told n) ∙ mapped (file_at tree n) ∙ sym (among-paths_in tree n));
+      (λ n. seen.among n ∙ sym (look_is_some rows n) ∙ ap is_some (told n) ∙ mapped (file_at tree n) ∙ sym (among-paths_in tree n));
   listing = same_rows listing (listing_of c passes tree) seen.listing_rises (listing_rising c passes tree)
-    (λ p. entry_at tells c tree p (passes p) (file_at tree p) (look listing p) t refl
-        (subst (λ v. IsEntryOf tells tree c.hash p (cond (passes p) v None) (look listing p)) (told p) (seen.entries p))
+      (λ p. entry_at tells c tree p (passes p) (file_at tree p) (look listing p) t refl
+      (subst (λ v. IsEntryOf tells tree c.hash p (cond (passes p) v None) (look listing p)) (told p) (seen.entries p))
       ∙ sym (look-listing_of c passes tree p));
 }
   where

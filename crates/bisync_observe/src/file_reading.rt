@@ -61,7 +61,11 @@ fn read_opened<R: Remote>(
         if count == 0 {
             let same = tally.size == size;
             let read = tally.entry(listed);
-            return if same { Ok(read) } else { Err(ReadFault::Moved(Some(read))) };
+            return if same {
+                Ok(read)
+            } else {
+                Err(ReadFault::Moved(Some(read)))
+            };
         }
         if !tally.add(&buffer[..count]) {
             return Err(ReadFault::Moved(None));

@@ -1,3 +1,7 @@
+ghost use Rattle.std.specs.Prelude.{false, [], None};
+ghost use Rattle.std.specs.FinMap as finmap;
+ghost use Rattle.bisync_tree.specs.declared.windows.Window.TheVariants.{Ns1};
+
 use crate::{ObserveFault, Seen, narrow, observe};
 use bisync_device::{Failed, ListFault, Remote};
 use bisync_filter::Rules;
@@ -47,6 +51,15 @@ fn seen<R: Remote>(
     Ok(observe(alloc, remote, &rules, compare, limits))
 }
 
+fn whole<R: Remote>(
+    alloc: Global,
+    remote: &mut R,
+    rules: &str,
+    compare: &Compare,
+) -> Result<Seen, Fail> {
+    Ok(seen(alloc, remote, rules, compare, &Limits::REAL)?.map_err(|_| Failed)?)
+}
+
 fn has_row(listing: &Listing, i: usize, path: &str, entry: &Entry) -> bool {
     i < listing.len()
         && listing.path_at(i).as_bytes() == path.as_bytes()
@@ -56,10 +69,12 @@ fn has_row(listing: &Listing, i: usize, path: &str, entry: &Entry) -> bool {
 #[test]
 fn a_side_is_seen_with_its_digests(rt: HostRuntime) -> Result<(), Fail> {
     let mut remote = remote_of(rt.alloc(), &[("b", "bb"), ("a.txt", "a")])?;
-    let Ok(one) = seen(rt.alloc(), &mut remote, "- b\n", &BY_DIGEST, &Limits::REAL)? else {
-        return Err(Fail);
+    let one = whole(rt.alloc(), &mut remote, "- b\n", &BY_DIGEST)?;
+    let entry = Entry {
+        size: 1,
+        time: 7,
+        hash: Some(DIGEST_OF_A),
     };
-    let entry = Entry { size: 1, time: 7, hash: Some(DIGEST_OF_A) };
     assert_eq!(rt; one.names.len(), 2);
     assert_eq!(rt; one.listing.len(), 1);
     assert!(rt; has_row(&one.listing, 0, "a.txt", &entry));
@@ -69,10 +84,12 @@ fn a_side_is_seen_with_its_digests(rt: HostRuntime) -> Result<(), Fail> {
 #[test]
 fn no_content_is_read_without_checksums(rt: HostRuntime) -> Result<(), Fail> {
     let mut remote = remote_of(rt.alloc(), &[("a", "a"), ("b", "bb")])?;
-    let Ok(one) = seen(rt.alloc(), &mut remote, "", &BY_SIZE, &Limits::REAL)? else {
-        return Err(Fail);
+    let one = whole(rt.alloc(), &mut remote, "", &BY_SIZE)?;
+    let entry = Entry {
+        size: 2,
+        time: 7,
+        hash: None,
     };
-    let entry = Entry { size: 2, time: 7, hash: None };
     assert_eq!(rt; remote.calls(), 1);
     assert!(rt; has_row(&one.listing, 1, "b", &entry));
     Ok(())
@@ -81,9 +98,7 @@ fn no_content_is_read_without_checksums(rt: HostRuntime) -> Result<(), Fail> {
 #[test]
 fn an_empty_remote_has_nothing(rt: HostRuntime) -> Result<(), Fail> {
     let mut remote = remote_of(rt.alloc(), &[])?;
-    let Ok(one) = seen(rt.alloc(), &mut remote, "", &BY_DIGEST, &Limits::REAL)? else {
-        return Err(Fail);
-    };
+    let one = whole(rt.alloc(), &mut remote, "", &BY_DIGEST)?;
     assert_eq!(rt; one.names.len(), 0);
     assert_eq!(rt; one.listing.len(), 0);
     Ok(())
@@ -95,13 +110,17 @@ fn a_limit_is_passed(rt: HostRuntime) -> Result<(), Fail> {
     let cases = [(2, 9, true), (9, 2, true), (3, 3, false)];
     for (files, names, refused) in cases {
         let mut remote = remote_of(rt.alloc(), &[("x", ""), ("y", ""), ("z", "")])?;
-        let limits = Limits { files, names, listing: 0 };
+        let limits = Limits {
+            files,
+            names,
+            listing: 0,
+        };
         match seen(rt.alloc(), &mut remote, "- *\n", &BY_SIZE, &limits)? {
             Err(ObserveFault::TooMany(files, bytes)) => {
                 assert!(rt; refused && files == 3 && bytes == 3);
             }
             Ok(one) => assert!(rt; !refused && one.names.len() == 3 && one.listing.len() == 0),
-            Err(_) => return Err(Fail),
+            Err(_) => assert!(rt; false),
         }
     }
     Ok(())
@@ -121,7 +140,11 @@ fn a_failed_call_is_the_remotes_fault(rt: HostRuntime) -> Result<(), Fail> {
 
 #[test]
 fn a_listing_is_narrowed(rt: HostRuntime) -> Result<(), Fail> {
-    let entry = Entry { size: 1, time: 7, hash: None };
+    let entry = Entry {
+        size: 1,
+        time: 7,
+        hash: None,
+    };
     let mut listing = Listing::new(rt.alloc());
     for path in ["a.txt", "b"] {
         let path = Path::read(rt.alloc(), path.as_bytes())?;
@@ -133,5 +156,153 @@ fn a_listing_is_narrowed(rt: HostRuntime) -> Result<(), Fail> {
     let narrowed = narrow(rt.alloc(), &listing, &rules)?;
     assert_eq!(rt; narrowed.len(), 1);
     assert!(rt; has_row(&narrowed, 0, "a.txt", &entry));
+    Ok(())
+}
+
+/// A remote that tells nothing, lists the items that it was given, and always fills the buffer.
+#[derive(Drop)]
+struct Untold {
+    items: Vec<Item>,
+    opened: bool,
+    begun: bool,
+}
+
+impl Untold {
+    fn new(alloc: Global, listed: &[(&str, u64)]) -> Result<Untold, Fail> {
+        let mut items = Vec::new(alloc);
+        for (text, size) in listed {
+            let path = Text::from_bytes(alloc, text.as_bytes())?;
+            items.push(Item {
+                path,
+                size: *size,
+                time: 7,
+            })?;
+        }
+        Ok(Untold {
+            items,
+            opened: false,
+            begun: false,
+        })
+    }
+}
+
+impl Remote for Untold {
+    ghost tells = { false };
+
+    ghost state = { λ untold. record {
+      tree = finmap.empty;
+      folders = finmap.empty;
+      changes = 0;
+      reading = record { opened = untold.opened; rest = [] };
+      begun = untold.begun;
+      part = [];
+      faults = 0;
+      left = None;
+      window = Ns1;
+    } };
+
+    fn window(&self) -> Window {
+        Window::Ns1
+    }
+
+    fn attach(&mut self, _root: &Text) -> Result<(), Failed> {
+        self.opened = false;
+        self.begun = false;
+        Ok(())
+    }
+
+    fn list(&mut self, _alloc: Global, out: &mut Vec<Item>) -> Result<(), ListFault> {
+        match out.append(&mut self.items) {
+            Ok(()) => Ok(()),
+            Err(_) => Err(ListFault::OutOfMemory),
+        }
+    }
+
+    fn open(&mut self, _path: &Path) -> Result<bool, Failed> {
+        self.opened = true;
+        Ok(true)
+    }
+
+    fn read(&mut self, buffer: &mut [u8]) -> Result<usize, Failed> {
+        Ok(buffer.len())
+    }
+
+    fn begin(&mut self) -> Result<(), Failed> {
+        self.begun = true;
+        Ok(())
+    }
+
+    fn append(&mut self, _bytes: &[u8]) -> Result<(), Failed> {
+        Ok(())
+    }
+
+    fn commit(&mut self, _path: &Path, _time: i64) -> Result<(), Failed> {
+        self.begun = false;
+        Ok(())
+    }
+
+    fn rename(&mut self, _from: &Path, _to: &Path) -> Result<bool, Failed> {
+        Ok(false)
+    }
+
+    fn delete(&mut self, _path: &Path) -> Result<bool, Failed> {
+        Ok(false)
+    }
+}
+
+#[test]
+fn the_first_bad_text_is_told(rt: HostRuntime) -> Result<(), Fail> {
+    let mut remote = Untold::new(rt.alloc(), &[("k", 1), ("a//b", 1), ("/", 1)])?;
+    let limits = Limits {
+        files: 0,
+        names: 0,
+        listing: 0,
+    };
+    match seen(rt.alloc(), &mut remote, "", &BY_SIZE, &limits)? {
+        Err(ObserveFault::BadPath(text)) => assert_eq!(rt; text.as_bytes(), b"a//b".as_slice()),
+        _ => assert!(rt; false),
+    }
+    Ok(())
+}
+
+#[test]
+fn the_earlier_of_equal_texts_counts(rt: HostRuntime) -> Result<(), Fail> {
+    let mut remote = Untold::new(rt.alloc(), &[("k", 1), ("f", 2), ("k", 3)])?;
+    let one = whole(rt.alloc(), &mut remote, "", &BY_SIZE)?;
+    assert_eq!(rt; one.names.len(), 2);
+    assert_eq!(rt; one.listing.len(), 2);
+    assert!(rt;
+        has_row(
+            &one.listing,
+            1,
+            "k",
+            &Entry {
+                size: 1,
+                time: 7,
+                hash: None
+            }
+        )
+    );
+    Ok(())
+}
+
+#[test]
+fn a_file_that_grew_has_moved(rt: HostRuntime) -> Result<(), Fail> {
+    let mut remote = Untold::new(rt.alloc(), &[("f", 1)])?;
+    match seen(rt.alloc(), &mut remote, "", &BY_DIGEST, &Limits::REAL)? {
+        Err(ObserveFault::Moved(path, listed, Some(read))) => {
+            assert_eq!(rt; path.as_bytes(), b"f".as_slice());
+            assert!(rt;
+                listed
+                    == Entry {
+                        size: 1,
+                        time: 7,
+                        hash: None
+                    }
+            );
+            assert!(rt; read.size == 65_536 && read.time == 7 && read.hash.is_some());
+        }
+        _ => assert!(rt; false),
+    }
     Ok(())
 }

@@ -10,7 +10,9 @@ returns-then-tally-size-clause-streams g c =
     let tallied = c.add.ensures.added i.bytes i.tallied c.if-not-add.false in
     let less : c.args.listed.now.size < length bytes = omega (arith, tallied.size, c.if-tally-size.true) in
     let entry = c.entry.ensures bytes tallied in (
-      ( record { bytes = bytes; entry = entry }
-      , λ same. other_size _ _ less (ap (λ (e : Entry). e.size) entry) same ),
+      (
+        record { bytes = bytes; entry = entry },
+        λ same. other_size _ _ less (ap (λ (e : Entry). e.size) entry) same,
+      ),
       λ t. too_long _ bytes _ _ (longer _ _ _ _ i.bytes _ _ i.source c.in-Ok.ensures.reads t) less,
     )

@@ -10,5 +10,5 @@ pub returns : goal.returns
 returns c =
     let ranks = ranks_by nat_list_cmp_total (λ (r : PathBytes × Entry). r.0) in
     in_order _ _ c.sort_by.ensures.permutation
-      (c.in_ok-sort_by.ensures.sorted is_below ranks (answers_always _ _ _ (λ f a r q k. search rules)))
-      (c.sort_by.ensures.stable is_below ranks (answers_always _ _ _ (λ f a r q k. search rules)))
+    (c.in_ok-sort_by.ensures.sorted is_below ranks (answers_always _ _ _ (λ f a r q k. search rules)))
+    (c.sort_by.ensures.stable is_below ranks (answers_always _ _ _ (λ f a r q k. search rules)))

@@ -24,12 +24,12 @@ loop-i-preserved c =
     let test : c.passes.result ≡ passes c.path_at-path.result.now = subst (λ rules. c.passes.result ≡ rules_pass rules c.path_at-path.result.now) i.0 c.passes.ensures.test in
     let same = ap (λ (r : Bor (List Rule)). r.now) c.passes.ensures.rules ∙ i.0 in
     elim c.if-passes.branch [
-      then-passes+in_ok-copy+in_ok-push w ↦
-        let one = passing_one passes rows c.loop-i.i c.path_at-path.result.now w.entry_at.result.now less c.path_at-path.ensures w.entry_at.ensures (sym test ∙ w.if-passes.true) in
-        let pushed : w.push.new.self ≡ c.loop-i.narrowed ++ (w.in_ok-copy.field-0, w.entry_at.result.now) ∷ [] = w.in_ok-push.ensures.ok in
-        let copied = ap (λ p. c.loop-i.narrowed ++ (p, w.entry_at.result.now) ∷ []) w.in_ok-copy.ensures in
-        let so_far = ap (λ (rs : Rows). rs ++ (c.path_at-path.result.now, w.entry_at.result.now) ∷ []) i.1 in
-        (same, w.narrowed-is ∙ pushed ∙ copied ∙ so_far ∙ sym one)
-    | else-passes w ↦
-        (same, w.narrowed-is ∙ i.1 ∙ sym (passing_none passes rows c.loop-i.i c.path_at-path.result.now less c.path_at-path.ensures (sym test ∙ w.if-passes.false)))
+      | then-passes+in_ok-copy+in_ok-push w ↦
+          let one = passing_one passes rows c.loop-i.i c.path_at-path.result.now w.entry_at.result.now less c.path_at-path.ensures w.entry_at.ensures (sym test ∙ w.if-passes.true) in
+          let pushed : w.push.new.self ≡ c.loop-i.narrowed ++ (w.in_ok-copy.field-0, w.entry_at.result.now) ∷ [] = w.in_ok-push.ensures.ok in
+          let copied = ap (λ p. c.loop-i.narrowed ++ (p, w.entry_at.result.now) ∷ []) w.in_ok-copy.ensures in
+          let so_far = ap (λ (rs : Rows). rs ++ (c.path_at-path.result.now, w.entry_at.result.now) ∷ []) i.1 in
+          (same, w.narrowed-is ∙ pushed ∙ copied ∙ so_far ∙ sym one)
+      | else-passes w ↦
+          (same, w.narrowed-is ∙ i.1 ∙ sym (passing_none passes rows c.loop-i.i c.path_at-path.result.now less c.path_at-path.ensures (sym test ∙ w.if-passes.false)))
     ]

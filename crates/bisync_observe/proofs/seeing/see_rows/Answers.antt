@@ -49,14 +49,14 @@ loop-path-preserved g c =
     let rules = ap (λ (r : Bor (List Rule)). r.now) c.passes.ensures.rules ∙ i.2 in
     let test = subst (λ rules. c.passes.result ≡ rules_pass rules c.in-Some.path) i.2 c.passes.ensures.test in
     elim c.if-passes.branch [
-      then-passes+in-Ok+in_ok-copy+in_ok-push w ↦
-        let room : IsTrue c.args.compare.now.hash → 0 < length c.if-passes.buffer = rw w.buffer-is (λ h. subst (λ n. 0 < n) (sym w.entry.ensures.buffer) (i.3 h)) in
-        let row = listed _ _ _ _ _ _ _ _ _ _ (c.in-Some.path, c.in-Some.listed) w.in-Ok.entry i.4 c.in-Some.ensures.steps.0 above (sym test ∙ w.if-passes.true)
-              (g.R.Remote.state w.entry.new.remote) w.in-Ok.ensures.entry w.entry.ensures.only_reads (w.in-Ok.ensures.cause.kept refl) in
-        let pushed = w.listing-is ∙ w.in_ok-push.ensures.ok ∙ ap (λ p. c.loop-path.listing ++ (p, w.in-Ok.entry) ∷ []) w.in_ok-copy.ensures in
-        (tt, tt, rules, room, seeing_at _ _ _ _ _ _ _ _ _ _ _ _ (ap g.R.Remote.state w.remote-is) c.in_ok-push-2.ensures.ok pushed row)
-    | else-passes w ↦
-        let room : IsTrue c.args.compare.now.hash → 0 < length c.if-passes.buffer = rw w.buffer-is i.3 in
-        let row = named _ _ _ _ _ _ _ _ _ _ (c.in-Some.path, c.in-Some.listed) i.4 c.in-Some.ensures.steps.0 above (sym test ∙ w.if-passes.false) in
-        (tt, tt, rules, room, seeing_at _ _ _ _ _ _ _ _ _ _ _ _ (ap g.R.Remote.state w.remote-is) c.in_ok-push-2.ensures.ok w.listing-is row)
+      | then-passes+in-Ok+in_ok-copy+in_ok-push w ↦
+          let room : IsTrue c.args.compare.now.hash → 0 < length c.if-passes.buffer = rw w.buffer-is (λ h. subst (λ n. 0 < n) (sym w.entry.ensures.buffer) (i.3 h)) in
+          let row = listed _ _ _ _ _ _ _ _ _ _ (c.in-Some.path, c.in-Some.listed) w.in-Ok.entry i.4 c.in-Some.ensures.steps.0 above (sym test ∙ w.if-passes.true)
+          (g.R.Remote.state w.entry.new.remote) w.in-Ok.ensures.entry w.entry.ensures.only_reads (w.in-Ok.ensures.cause.kept refl) in
+          let pushed = w.listing-is ∙ w.in_ok-push.ensures.ok ∙ ap (λ p. c.loop-path.listing ++ (p, w.in-Ok.entry) ∷ []) w.in_ok-copy.ensures in
+          (tt, tt, rules, room, seeing_at _ _ _ _ _ _ _ _ _ _ _ _ (ap g.R.Remote.state w.remote-is) c.in_ok-push-2.ensures.ok pushed row)
+      | else-passes w ↦
+          let room : IsTrue c.args.compare.now.hash → 0 < length c.if-passes.buffer = rw w.buffer-is i.3 in
+          let row = named _ _ _ _ _ _ _ _ _ _ (c.in-Some.path, c.in-Some.listed) i.4 c.in-Some.ensures.steps.0 above (sym test ∙ w.if-passes.false) in
+          (tt, tt, rules, room, seeing_at _ _ _ _ _ _ _ _ _ _ _ _ (ap g.R.Remote.state w.remote-is) c.in_ok-push-2.ensures.ok w.listing-is row)
     ]
