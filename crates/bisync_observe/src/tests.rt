@@ -60,6 +60,32 @@ fn whole<R: Remote>(
     Ok(seen(alloc, remote, rules, compare, &Limits::REAL)?.map_err(|_| Failed)?)
 }
 
+type Outcome = Result<Seen, ObserveFault>;
+
+fn too_many(outcome: &Outcome) -> Option<(u64, u64)> {
+    match outcome {
+        Err(ObserveFault::TooMany(files, bytes)) => Some((*files, *bytes)),
+        _ => None,
+    }
+}
+
+fn is_bad_path(outcome: &Outcome, text: &str) -> bool {
+    match outcome {
+        Err(ObserveFault::BadPath(bad)) => bad.as_bytes() == text.as_bytes(),
+        _ => false,
+    }
+}
+
+/// The size listed and the size read of a file that moved.
+fn moved_sizes(outcome: &Outcome) -> Option<(u64, Option<u64>)> {
+    match outcome {
+        Err(ObserveFault::Moved(_, listed, read)) => {
+            Some((listed.size, read.as_ref().map(|entry| entry.size)))
+        }
+        _ => None,
+    }
+}
+
 fn has_row(listing: &Listing, i: usize, path: &str, entry: &Entry) -> bool {
     i < listing.len()
         && listing.path_at(i).as_bytes() == path.as_bytes()
@@ -106,22 +132,18 @@ fn an_empty_remote_has_nothing(rt: HostRuntime) -> Result<(), Fail> {
 
 #[test]
 fn a_limit_is_passed(rt: HostRuntime) -> Result<(), Fail> {
-    // The greatest numbers of files and of bytes of names, and whether three names of one byte are too many.
-    let cases = [(2, 9, true), (9, 2, true), (3, 3, false)];
-    for (files, names, refused) in cases {
+    // The greatest numbers of files and of bytes of names, and what three names of one byte come to.
+    let cases = [(2, 9, Some((3, 3))), (9, 2, Some((3, 3))), (3, 3, None)];
+    for (files, names, wanted) in cases {
         let mut remote = remote_of(rt.alloc(), &[("x", ""), ("y", ""), ("z", "")])?;
         let limits = Limits {
             files,
             names,
             listing: 0,
         };
-        match seen(rt.alloc(), &mut remote, "- *\n", &BY_SIZE, &limits)? {
-            Err(ObserveFault::TooMany(files, bytes)) => {
-                assert!(rt; refused && files == 3 && bytes == 3);
-            }
-            Ok(one) => assert!(rt; !refused && one.names.len() == 3 && one.listing.len() == 0),
-            Err(_) => assert!(rt; false),
-        }
+        let one = seen(rt.alloc(), &mut remote, "- *\n", &BY_SIZE, &limits)?;
+        assert_eq!(rt; too_many(&one), wanted);
+        assert_eq!(rt; one.is_ok(), wanted.is_none());
     }
     Ok(())
 }
@@ -258,10 +280,8 @@ fn the_first_bad_text_is_told(rt: HostRuntime) -> Result<(), Fail> {
         names: 0,
         listing: 0,
     };
-    match seen(rt.alloc(), &mut remote, "", &BY_SIZE, &limits)? {
-        Err(ObserveFault::BadPath(text)) => assert_eq!(rt; text.as_bytes(), b"a//b".as_slice()),
-        _ => assert!(rt; false),
-    }
+    let one = seen(rt.alloc(), &mut remote, "", &BY_SIZE, &limits)?;
+    assert!(rt; is_bad_path(&one, "a//b"));
     Ok(())
 }
 
@@ -289,20 +309,7 @@ fn the_earlier_of_equal_texts_counts(rt: HostRuntime) -> Result<(), Fail> {
 #[test]
 fn a_file_that_grew_has_moved(rt: HostRuntime) -> Result<(), Fail> {
     let mut remote = Untold::new(rt.alloc(), &[("f", 1)])?;
-    match seen(rt.alloc(), &mut remote, "", &BY_DIGEST, &Limits::REAL)? {
-        Err(ObserveFault::Moved(path, listed, Some(read))) => {
-            assert_eq!(rt; path.as_bytes(), b"f".as_slice());
-            assert!(rt;
-                listed
-                    == Entry {
-                        size: 1,
-                        time: 7,
-                        hash: None
-                    }
-            );
-            assert!(rt; read.size == 65_536 && read.time == 7 && read.hash.is_some());
-        }
-        _ => assert!(rt; false),
-    }
+    let one = seen(rt.alloc(), &mut remote, "", &BY_DIGEST, &Limits::REAL)?;
+    assert!(rt; matches!(moved_sizes(&one), Some((1, Some(65_536)))));
     Ok(())
 }
