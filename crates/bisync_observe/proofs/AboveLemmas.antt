@@ -1,17 +1,16 @@
 -- Paths that come after others, and paths that come again.
-use Rattle.std.proofs.Common.{◌≡◌, ℕ, zero, suc, ◌+◌, ◌<◌, ◌≤◌, Bool, true, false, cond, ◌||◌, List, [], ◌∷◌, ◌++◌, length, get_or, Option, Some, None, refl, sym, ◌∙◌, ap, subst, arith}
+use Rattle.std.proofs.Common.{◌≡◌, ℕ, zero, suc, ◌<◌, ◌≤◌, Bool, true, false, ◌||◌, List, [], ◌∷◌, ◌++◌, length, get_or, refl, sym, ◌∙◌, ap, subst, arith}
 use Rattle.std.proofs.lemmas.Grind.{common_steps}
 use Rattle.std.proofs.lemmas.List.Sorted.{sorted_far, ranks_by}
-use Rattle.std.specs.Prelude.{bytes_eq, is_some}
+use Rattle.std.specs.Prelude.{bytes_eq}
 use Rattle.std.specs.Cmp.Lexicographic.{nat_list_cmp_total}
 use Rattle.std.specs.List.Sorted.{IsSortedBy}
 use Rattle.std.specs.Ordering.{is_lt}
 use Rattle.std.specs.declared.cmp.Ordering.{Ordering}
 use Rattle.std.specs.declared.cmp.Ordering.TheVariants.{Less, Equal, Greater}
-use Rattle.bisync_tree.specs.Rows.{PathBytes, Rows, keys, look, is_among, AreAbove, AreRising, IsAboveLast}
+use Rattle.bisync_tree.specs.Rows.{PathBytes, Rows, keys, is_among, AreRising, IsAboveLast}
 use Rattle.bisync_tree.specs.declared.entries.Entry.{Entry}
 use Rattle.bisync_tree.proofs.PathOrder.{order, path_is_itself, same_path, below_trans, order_same, order_back, below_differs}
-use Rattle.bisync_tree.proofs.LookLemmas.{look_is_some}
 use Rattle.bisync_observe.proofs.RowLemmas.{is_below}
 
 -- AMONG PATHS

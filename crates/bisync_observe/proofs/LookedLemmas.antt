@@ -1,5 +1,5 @@
 -- What a row more changes for look-ups.
-use Rattle.std.proofs.Common.{◌≡◌, Bool, true, false, cond, List, [], ◌∷◌, ◌++◌, Option, Some, None, refl, sym, ◌∙◌, ap, subst}
+use Rattle.std.proofs.Common.{◌≡◌, Bool, true, false, cond, [], ◌∷◌, ◌++◌, Option, Some, None, refl, sym, ◌∙◌, ap, subst}
 use Rattle.std.specs.Prelude.{bytes_eq, is_some}
 use Rattle.bisync_tree.specs.Rows.{PathBytes, Rows, keys, look, is_among}
 use Rattle.bisync_tree.specs.declared.entries.Entry.{Entry}

@@ -5,11 +5,11 @@ use Rattle.std.proofs.lemmas.List.{append_assoc}
 use Rattle.std.proofs.lemmas.List.Sums.{sum_by-append}
 use Rattle.std.specs.Prelude.{bytes_eq, is_some}
 use Rattle.std.specs.List.{sum_by}
-use Rattle.bisync_device.specs.Remote.{RemoteState, KeepsTree}
+use Rattle.bisync_device.specs.Remote.{RemoteState}
 use Rattle.bisync_tree.specs.Rows.{PathBytes, Rows, keys, look, is_among, AreRising, IsAboveLast}
 use Rattle.bisync_tree.specs.Tree.{Tree}
 use Rattle.bisync_tree.specs.declared.entries.Entry.{Entry}
-use Rattle.bisync_tree.proofs.PathOrder.{order, path_is_itself, same_path}
+use Rattle.bisync_tree.proofs.PathOrder.{same_path}
 use Rattle.bisync_tree.proofs.LookLemmas.{look_is_some, look_unlisted}
 use Rattle.bisync_tree.proofs.SearchLemmas.{keys_push, rising_push, rising_rows_push}
 use Rattle.bisync_observe.specs.FileReading.{OnlyReads, HasBytes, LacksSize}

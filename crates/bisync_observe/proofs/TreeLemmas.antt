@@ -8,7 +8,7 @@ use Rattle.std.specs.List.Sorted.{IsPermutation}
 use Rattle.std.specs.FinMap.{entries}
 use Rattle.bisync_text.specs.Path.{IsPath}
 use Rattle.bisync_tree.specs.Rows.{PathBytes, Rows, keys, look, AreRising, listing_of, paths_in, item_of, items_of}
-use Rattle.bisync_tree.specs.Tree.{Tree, file_at, entry}
+use Rattle.bisync_tree.specs.Tree.{Tree, file_at}
 use Rattle.bisync_tree.specs.declared.entries.Compare.{Compare}
 use Rattle.bisync_tree.specs.declared.entries.Entry.{Entry}
 use Rattle.bisync_tree.specs.declared.files.File.{File}

@@ -1,11 +1,11 @@
 -- What was seen is the tree's.
-use Rattle.std.proofs.Common.{◌≡◌, ℕ, ◌≤◌, ◌-◌, ◌^◌, Bool, true, false, cond, IsTrue, List, [], ◌∷◌, length, Option, Some, None, Result, Ok, Err, refl, sym, ◌∙◌, ap, subst, arith}
+use Rattle.std.proofs.Common.{◌≡◌, ℕ, ◌≤◌, ◌-◌, ◌^◌, Bool, true, false, cond, IsTrue, List, [], length, Option, Some, None, Result, Ok, Err, refl, sym, ◌∙◌, ap, subst, arith}
 use Rattle.std.proofs.lemmas.List.Sorted.{IsPermutation-map, length_permutation, sum_by-IsPermutation}
 use Rattle.std.specs.Prelude.{is_some, option_map, min}
 use Rattle.std.specs.List.{sum_by}
 use Rattle.std.specs.Result.{IfOk, IfErr}
 use Rattle.md5.specs.Md5.{md5}
-use Rattle.bisync_tree.specs.Rows.{PathBytes, Rows, keys, look, is_among, listing_of, paths_in}
+use Rattle.bisync_tree.specs.Rows.{PathBytes, Rows, keys, look, listing_of, paths_in}
 use Rattle.bisync_tree.specs.Tree.{Tree, file_at, entry}
 use Rattle.bisync_tree.specs.declared.entries.Compare.{Compare}
 use Rattle.bisync_tree.specs.declared.entries.Entry.{Entry}
@@ -18,10 +18,10 @@ use Rattle.bisync_tree.proofs.RisingLemmas.{rising_same}
 use Rattle.bisync_tree.specs.declared.files.Item.{Item}
 use Rattle.bisync_device.specs.Remote.{Lists}
 use Rattle.bisync_observe.specs.Counting.{name_bytes, IsWithin}
-use Rattle.bisync_observe.specs.FileReading.{HasBytes, LacksSize}
+use Rattle.bisync_observe.specs.FileReading.{LacksSize}
 use Rattle.bisync_observe.specs.Listed.{HaveNoDigests, IsInOrder, rows_of}
-use Rattle.bisync_observe.specs.Observing.{IsSeenOf, AreWithin, HaveDigestsFor, IsCause, IsMoved}
-use Rattle.bisync_observe.specs.Seeing.{IsSeen, IsEntryOf, IsEntryFor, IsWhyUnseen, IsMovedRow}
+use Rattle.bisync_observe.specs.Observing.{IsSeenOf, AreWithin, IsCause}
+use Rattle.bisync_observe.specs.Seeing.{IsSeen, IsEntryOf, IsEntryFor, IsWhyUnseen}
 use Rattle.bisync_observe.specs.Tally.{entry_of_bytes}
 use Rattle.bisync_observe.specs.declared.faults.ObserveFault.{ObserveFault}
 use Rattle.bisync_observe.specs.declared.faults.ObserveFault.TheVariants.{RemoteFault, BadPath, TooMany, Moved, OutOfMemory}

@@ -1,5 +1,5 @@
 -- How many names there are, and how many bytes they have.
-use Rattle.std.specs.Prelude.{◌≡◌, ◌<◌, ◌≤◌, ◌⊎◌, ◌^◌, ◌-◌, ℕ, List, length, min, IsTrue}
+use Rattle.std.specs.Prelude.{◌≡◌, ◌<◌, ◌≤◌, ◌⊎◌, ◌^◌, ◌-◌, ℕ, List, length, min}
 use Rattle.std.specs.List.{sum_by}
 use Rattle.bisync_tree.specs.Rows.{PathBytes, paths_in}
 use Rattle.bisync_tree.specs.Tree.{Tree}

@@ -1,5 +1,5 @@
 -- What reading one listed file comes to.
-use Rattle.std.specs.Prelude.{◌≡◌, ◌≢◌, ◌<◌, ℕ, Bool, true, false, IsTrue, List, length, Option, Some, None, Result, Ok, Err, ⊤}
+use Rattle.std.specs.Prelude.{◌≡◌, ◌≢◌, ℕ, Bool, true, false, IsTrue, List, length, Option, Some, None, Result, Ok, Err, ⊤}
 use Rattle.bisync_tree.specs.Tree.{Tree, file_at}
 use Rattle.bisync_tree.specs.Rows.{PathBytes}
 use Rattle.bisync_tree.specs.declared.entries.Entry.{Entry}

@@ -1,5 +1,5 @@
 -- What was seen of a remote, and why nothing was.
-use Rattle.std.specs.Prelude.{◌≡◌, ℕ, Bool, true, false, IsTrue, List, length, is_some, Option, Some, None, Result, Ok, Err, ⊤}
+use Rattle.std.specs.Prelude.{◌≡◌, Bool, true, false, IsTrue, List, length, is_some, Option, Some, None, Result, Ok, Err, ⊤}
 use Rattle.bisync_text.specs.Path.{IsPath}
 use Rattle.bisync_tree.specs.Rows.{PathBytes, Rows, look, is_among, listing_of, paths_in}
 use Rattle.bisync_tree.specs.Tree.{Tree}

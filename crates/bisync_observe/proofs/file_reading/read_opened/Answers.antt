@@ -1,4 +1,4 @@
-use Rattle.std.proofs.Common.{◌≡◌, ◌<◌, ◌++◌, length, take, arith, ap}
+use Rattle.std.proofs.Common.{◌<◌, ◌++◌, length, take, arith, ap}
 use Rattle.bisync_tree.specs.declared.entries.Entry.{Entry}
 use Rattle.bisync_observe.proofs.StreamLemmas.{longer, other_size, too_long}
 use Rattle.bisync_observe.proofs.file_reading.read_opened.Goals as goal

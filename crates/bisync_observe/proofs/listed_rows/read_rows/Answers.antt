@@ -1,4 +1,4 @@
-use Rattle.std.proofs.Common.{◌≡◌, subst, ◌∙◌}
+use Rattle.std.proofs.Common.{subst, ◌∙◌}
 use Rattle.bisync_text.specs.Path.{IsPath}
 use Rattle.bisync_observe.proofs.RowLemmas.{one_more}
 use Rattle.bisync_observe.proofs.listed_rows.read_rows.Goals as goal

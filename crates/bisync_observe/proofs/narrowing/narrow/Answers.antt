@@ -1,4 +1,4 @@
-use Rattle.std.proofs.Common.{◌≡◌, ◌<◌, ◌++◌, ◌∷◌, [], Bor, List, true, false, length, arith, sym, ◌∙◌, ap, subst}
+use Rattle.std.proofs.Common.{◌≡◌, ◌<◌, ◌++◌, ◌∷◌, [], Bor, List, true, length, arith, sym, ◌∙◌, ap, subst}
 use Rattle.bisync_filter.specs.Passing.{rules_pass}
 use Rattle.bisync_filter.specs.declared.rule_lists.Rule.{Rule}
 use Rattle.bisync_tree.specs.Rows.{Rows, keys, IsAboveLast}

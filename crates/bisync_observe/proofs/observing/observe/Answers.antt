@@ -5,7 +5,6 @@ use Rattle.bisync_tree.specs.Rows.{PathBytes, Rows, keys, look}
 use Rattle.bisync_tree.specs.Tree.{Tree, file_at}
 use Rattle.bisync_tree.specs.declared.entries.Entry.{Entry}
 use Rattle.bisync_observe.specs.Counting.{name_bytes, IsWithin}
-use Rattle.bisync_observe.specs.Listed.{rows_of}
 use Rattle.bisync_observe.specs.Observing.{ArePassingNames, AreWithin, HaveDigestsFor, IsCause, IsSeenOf}
 use Rattle.bisync_observe.specs.Seeing.{IsSeen, IsWhyUnseen}
 use Rattle.bisync_observe.specs.declared.faults.ObserveFault.{ObserveFault}

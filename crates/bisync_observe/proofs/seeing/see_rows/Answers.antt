@@ -1,8 +1,7 @@
-use Rattle.std.proofs.Common.{◌≡◌, ◌<◌, ◌++◌, length, ◌∷◌, [], true, false, Bor, List, None, IsTrue, refl, sym, ◌∙◌, ap, subst}
+use Rattle.std.proofs.Common.{◌≡◌, ◌<◌, ◌++◌, length, ◌∷◌, [], true, Bor, List, IsTrue, refl, sym, ◌∙◌, ap, subst}
 use Rattle.bisync_filter.specs.Passing.{rules_pass}
 use Rattle.bisync_filter.specs.declared.rule_lists.Rule.{Rule}
-use Rattle.bisync_tree.specs.Rows.{PathBytes, Rows, keys, IsAboveLast}
-use Rattle.bisync_tree.specs.declared.entries.Entry.{Entry}
+use Rattle.bisync_tree.specs.Rows.{keys, IsAboveLast}
 use Rattle.bisync_observe.proofs.SeenLemmas.{skipped, named, listed, listing_above, next_row, lacks_at_start, seeing_at}
 use Rattle.bisync_observe.proofs.seeing.see_rows.Goals.{then-passes+in-Ok+in_ok-copy+in_ok-push, else-passes}
 use Rattle.bisync_observe.proofs.seeing.see_rows.Goals as goal

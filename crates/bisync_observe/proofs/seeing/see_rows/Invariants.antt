@@ -1,4 +1,4 @@
-use Rattle.std.proofs.Common.{◌≡◌, ◌++◌, length}
+use Rattle.std.proofs.Common.{◌≡◌}
 use Rattle.std.specs.Vec.Iter.{into_iter_items}
 use Rattle.bisync_filter.specs.Passing.{rules_pass}
 use Rattle.bisync_observe.specs.Seeing.{IsRoom}
