@@ -5,7 +5,7 @@ use Rattle.bisync_tree.specs.Rows.{PathBytes}
 use Rattle.bisync_tree.specs.declared.entries.Entry.{Entry}
 use Rattle.bisync_tree.specs.declared.files.File.{File}
 use Rattle.bisync_device.specs.Remote.{RemoteState, KeepsTree, KeepsWriting}
-use Rattle.bisync_observe.specs.Tally.{entry_of_bytes}
+use Rattle.bisync_observe.specs.Tally.{entry_of_bytes, entry_of_size}
 use Rattle.bisync_observe.specs.declared.file_reading.ReadFault.{ReadFault}
 use Rattle.bisync_observe.specs.declared.file_reading.ReadFault.TheVariants.{Failed, Moved}
 
@@ -23,10 +23,10 @@ HasBytes tree path bytes = (file : File) × (file_at tree path ≡ Some file) ×
 abbrev pub LacksSize : Tree → PathBytes → ℕ → Type 0
 LacksSize tree path size = (file : File) → file_at tree path ≡ Some file → length file.bytes ≢ size
 
--- the entry is that of some bytes, of the listed size and with the listed time
+-- the entry tells the number of the bytes read, with the listed time and, as the listed one, no digest
 pub record IsRead (listed read : Entry) : Type 0 where
   pub bytes : List ℕ
-  pub entry : read ≡ entry_of_bytes listed.time bytes
+  pub entry : read ≡ entry_of_size listed.time bytes
 
 -- nothing was there to be read, or the bytes are too many to be counted, or other than listed
 abbrev pub Differs : Entry → Option Entry → Type 0

@@ -59,19 +59,17 @@ fn read_opened<R: Remote>(
             Err(Failed) => return Err(ReadFault::Failed),
         };
         if count == 0 {
-            let same = tally.size == size;
-            let read = tally.entry(listed);
-            return if same {
-                Ok(read)
+            return if tally.size == size {
+                Ok(tally.entry(listed))
             } else {
-                Err(ReadFault::Moved(Some(read)))
+                Err(ReadFault::Moved(Some(tally.counted(listed))))
             };
         }
         if !tally.add(&buffer[..count]) {
             return Err(ReadFault::Moved(None));
         }
         if tally.size > size {
-            return Err(ReadFault::Moved(Some(tally.entry(listed))));
+            return Err(ReadFault::Moved(Some(tally.counted(listed))));
         }
     }
 }

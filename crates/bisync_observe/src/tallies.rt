@@ -11,7 +11,7 @@ pub struct Tally {
 }
 
 impl Tally {
-    ghost use Rattle.bisync_observe.specs.Tally.{Tallies, entry_of_bytes};
+    ghost use Rattle.bisync_observe.specs.Tally.{Tallies, entry_of_bytes, entry_of_size};
 
     pub fn new() -> Tally
         ensures { Tallies result [] }
@@ -33,6 +33,17 @@ impl Tally {
         self.size = size;
         self.hasher.update(piece);
         true
+    }
+
+    /// The entry of the number of the bytes, with the listed time and no digest.
+    pub fn counted(&self, listed: &Entry) -> Entry
+        ensures { (bytes : List ℕ) → Tallies self.now bytes → result ≡ entry_of_size listed.now.time bytes }
+    {
+        Entry {
+            size: self.size,
+            time: listed.time,
+            hash: None,
+        }
     }
 
     /// The entry of the bytes, with the listed time.
