@@ -59,7 +59,8 @@ fn read_opened<R: Remote>(
             Err(Failed) => return Err(ReadFault::Failed),
         };
         if count == 0 {
-            return if tally.size == size {
+            let same = tally.size == size;
+            return if same {
                 Ok(tally.entry(listed))
             } else {
                 Err(ReadFault::Moved(Some(tally.counted(listed))))

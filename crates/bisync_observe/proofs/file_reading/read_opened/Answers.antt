@@ -9,7 +9,7 @@ returns-then-tally-size-clause-streams g c =
     let bytes = i.bytes ++ take c.in-Ok.count c.read.new.buffer in
     let tallied = c.add.ensures.added i.bytes i.tallied c.if-not-add.false in
     let less : c.args.listed.now.size < length bytes = omega (arith, tallied.size, c.if-tally-size.true) in
-    let entry = c.counted.ensures bytes tallied in (
+    let entry = c.counted-then-tally-size.ensures bytes tallied in (
       (
         record { bytes = bytes; entry = entry },
         λ same. other_size _ _ less (ap (λ (e : Entry). e.size) entry) same,
