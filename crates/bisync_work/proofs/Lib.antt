@@ -3,3 +3,7 @@ pub mod PairLaws
 pub mod SetBackLaws
 pub mod SwitchLaws
 pub mod FallLaws
+pub mod MarkLaws
+pub mod StampLaws
+pub mod BadNameLaws
+pub mod ReadingLaws

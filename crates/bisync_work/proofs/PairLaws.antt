@@ -40,7 +40,7 @@ synced_over Absent below a b = b
 synced_over (Kept bytes) below a b = a
 synced_over (Loose bytes) below a b = a
 
-same_bytes : (x y : List ℕ) → Some x ≡ Some y → x ≡ y
+pub same_bytes : (x y : List ℕ) → Some x ≡ Some y → x ≡ y
 same_bytes x y e = cc
 
 -- a name has one header and one listing

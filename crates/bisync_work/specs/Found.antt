@@ -6,11 +6,12 @@ use Rattle.bisync_tree.specs.declared.entries.Compare.{Compare}
 use Rattle.bisync_listing.specs.ListingText.{AreFields, HasDigestFor}
 use Rattle.bisync_listing.specs.declared.headers.Header.{Header}
 use Rattle.bisync_device.specs.WorkFolder.{WorkFolder}
-use Rattle.bisync_work.specs.Base.{HasBaseIn, HasNoBase}
+use Rattle.bisync_work.specs.Base.{Base, HasBaseIn, HasNoBase}
 use Rattle.bisync_work.specs.Stamps.{IsNewStamp}
 use Rattle.bisync_work.specs.BadNames.{IsFirstBad, base_names}
 use Rattle.bisync_work.specs.declared.bases.Pair.{Pair}
 use Rattle.bisync_work.specs.declared.found.Found.{Found}
+use Rattle.bisync_work.specs.declared.found.Listings.{Listings}
 
 -- the pair of the base, its two listings and its fields; without a base empty listings and no fields
 abbrev pub IsFoundIn : ℕ → WorkFolder → Option Pair → Rows → Rows → Option Compare → Type 0
@@ -29,3 +30,7 @@ pub record AreFoundFields (fields : Option Compare) (one two : Rows) : Type 0 wh
   pub are_fields : IfSome fields AreFields
   pub first : AllByRecursion (λ row. HasDigestFor fields row.1) one
   pub second : AllByRecursion (λ row. HasDigestFor fields row.1) two
+
+-- two listings of one header, as a base
+abbrev pub base_of : Listings → Base
+base_of listings = record { header = listings.header; one = listings.one; two = listings.two }

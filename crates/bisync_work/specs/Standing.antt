@@ -1,5 +1,5 @@
 -- What was read of a name, and what is kept of it.
-use Rattle.std.specs.Prelude.{◌≡◌, ◌==◌, ◌||◌, ℕ, Bool, true, false, List, Result, Ok, Err}
+use Rattle.std.specs.Prelude.{◌≡◌, ◌==◌, ◌||◌, ℕ, Bool, true, false, List, Option, Some, None, Result, Ok, Err}
 use Rattle.bisync_listing.specs.ListingText.{IsHeader, AreListed}
 use Rattle.bisync_listing.specs.FirstBadLine.{IsFirstBadLine}
 use Rattle.bisync_listing.specs.declared.faults.ListingFault.{ListingFault}
@@ -57,6 +57,11 @@ pub record AreMarks (limit : ℕ) (f : WorkFolder) (marks : Marks) : Type 0 wher
   pub two : IsMark limit f.two marks.two
   pub one_old : IsMark limit f.one_old marks.one_old
   pub two_old : IsMark limit f.two_old marks.two_old
+
+abbrev pub bad_line : Mark → Option ℕ
+bad_line mark.Absent = None
+bad_line (mark.Stamp stamp) = None
+bad_line (mark.Bad line) = Some line
 
 abbrev pub is_stamp : ℕ → Mark → Bool
 is_stamp n mark.Absent = false

@@ -1,9 +1,9 @@
-ghost use Rattle.std.specs.Prelude.{◌≡◌, ◌≤◌, ◌<◌, ◌^◌, ℕ, IsTrue, IfOk, MatchResult, Ok, Err};
+ghost use Rattle.std.specs.Prelude.{◌≡◌, ◌≤◌, ◌<◌, ◌^◌, ℕ, IsTrue, IfOk, IfErr};
 ghost use Rattle.bisync_device.specs.WorkFolder.{Held, WorkFolder};
 ghost use Rattle.bisync_device.specs.Work.{KeepsFolder};
 ghost use Rattle.bisync_work.specs.WorkCalls.{AreWorkCalls, is_device_fault};
 ghost use Rattle.bisync_work.specs.Base.{ArePair, NoPair, HasBaseIn, HasNoBase};
-ghost use Rattle.bisync_work.specs.Found.{IsFound, AreFoundFields};
+ghost use Rattle.bisync_work.specs.Found.{IsFound, AreFoundFields, base_of};
 ghost use Rattle.bisync_work.specs.Standing.{IsStanding, IsListedWell, IsMark, AreMarks};
 
 use crate::Pair;
@@ -50,5 +50,159 @@ impl From<Failed> for WorkFault {
 
     fn from(_: Failed) -> Self {
         WorkFault::Failed
+    }
+}
+
+/// Two listings of one header.
+#[derive(Drop)]
+struct Listings {
+    header: Header,
+    one: Listing,
+    two: Listing,
+}
+
+impl Standing {
+    /// What is kept of a name when its listing is gone.
+    fn mark(&self) -> Mark
+        ensures { (limit : ℕ) (held : Held) → IsStanding limit held self.now → IsMark limit held result }
+    {
+        match self {
+            Standing::Absent => Mark::Absent,
+            Standing::Listed(header, _) => Mark::Stamp(header.stamp),
+            Standing::Bad(line) => Mark::Bad(*line),
+        }
+    }
+}
+
+/// The two as a pair, where both are listings of one header, or the two again.
+fn join(one: Standing, two: Standing) -> Result<Listings, (Standing, Standing)>
+    ensures pair { IfOk result (λ pair. (limit : ℕ) (a b : Held) → IsStanding limit a one → IsStanding limit b two → ArePair limit a b (base_of pair)) }
+    ensures apart { IfErr result (λ again. (again.0 ≡ one) × (again.1 ≡ two)
+        × ((limit : ℕ) (a b : Held) → limit < 2 ^ 64 → IsStanding limit a one → IsStanding limit b two → NoPair limit a b)) }
+    ensures fields { IsListedWell one → IsListedWell two → IfOk result (λ pair. AreFoundFields pair.header.fields pair.one pair.two) }
+{
+    match (one, two) {
+        (Standing::Listed(header, first), Standing::Listed(other, second)) => {
+            if header == other {
+                return Ok(Listings {
+                    header,
+                    one: first,
+                    two: second,
+                });
+            }
+            Err((
+                Standing::Listed(header, first),
+                Standing::Listed(other, second),
+            ))
+        }
+        apart => Err(apart),
+    }
+}
+
+fn found_in(pair: Pair, listings: Listings, marks: &Marks) -> Found
+    ensures found { (limit : ℕ) (f : WorkFolder) → limit < 2 ^ 64 → AreMarks limit f marks.now → HasBaseIn limit f pair (base_of listings) → IsFound limit f result }
+    ensures stamp { (1 ≤ result.stamp) × (result.stamp ≤ 5) }
+    ensures fields { AreFoundFields listings.header.fields listings.one listings.two → AreFoundFields result.fields result.one result.two }
+{
+    Found {
+        pair: Some(pair),
+        one: listings.one,
+        two: listings.two,
+        bad: marks.first_bad(),
+        stamp: marks.new_stamp(),
+        fields: listings.header.fields,
+    }
+}
+
+fn found_none(alloc: Global, marks: &Marks) -> Found
+    ensures found { (limit : ℕ) (f : WorkFolder) → limit < 2 ^ 64 → AreMarks limit f marks.now → HasNoBase limit f → IsFound limit f result }
+    ensures stamp { (1 ≤ result.stamp) × (result.stamp ≤ 5) }
+    ensures fields { AreFoundFields result.fields result.one result.two }
+{
+    Found {
+        pair: None,
+        one: Listing::new(alloc),
+        two: Listing::new(alloc),
+        bad: marks.first_bad(),
+        stamp: marks.new_stamp(),
+        fields: None,
+    }
+}
+
+/// Goes on where `1.lst` and `2.lst` are no pair: `two` is what stands under the latter.
+fn find_older<W: Work>(
+    alloc: Global,
+    work: &mut W,
+    limits: &Limits,
+    two: Standing,
+    marks: (Mark, Mark),
+) -> Result<Found, WorkFault>
+    requires listed { IsListedWell two }
+    ensures found { IsTrue W.tells → IsStanding limits.now.listing (W.state work.old).folder.two two
+        → IsMark limits.now.listing (W.state work.old).folder.one marks.0 → IsMark limits.now.listing (W.state work.old).folder.two marks.1
+        → NoPair limits.now.listing (W.state work.old).folder.one (W.state work.old).folder.two
+        → IfOk result (IsFound limits.now.listing (W.state work.old).folder) }
+    ensures stamp { IfOk result (λ found. (1 ≤ found.stamp) × (found.stamp ≤ 5)) }
+    ensures fields { IfOk result (λ found. AreFoundFields found.fields found.one found.two) }
+    ensures folder { KeepsFolder W.tells (W.state work.old) (W.state work.new) }
+    ensures writing { (W.state work.new).writing ≡ (W.state work.old).writing }
+    ensures calls { AreWorkCalls (is_device_fault result) (W.state work.old) (W.state work.new) }
+{
+    let one_old = read_name(alloc, work, WorkName::OneOld, limits)?;
+    let mut marks = Marks {
+        one: marks.0,
+        two: marks.1,
+        one_old: one_old.mark(),
+        two_old: Mark::Absent,
+    };
+    let one_old = match join(one_old, two) {
+        Ok(listings) => {
+            marks.two_old = read_name(alloc, work, WorkName::TwoOld, limits)?.mark();
+            return Ok(found_in(Pair::Mixed, listings, &marks));
+        }
+        Err(apart) => apart.0,
+    };
+    let two_old = read_name(alloc, work, WorkName::TwoOld, limits)?;
+    marks.two_old = two_old.mark();
+    match join(one_old, two_old) {
+        Ok(listings) => Ok(found_in(Pair::Old, listings, &marks)),
+        Err(_) => Ok(found_none(alloc, &marks)),
+    }
+}
+
+/// Finds the base, the first bad name and the new stamp. Each of the four names is read once, in
+/// pieces of at most 4,096 bytes and no further than one byte past `limits.listing`. No name is
+/// changed.
+pub fn find_base<W: Work>(
+    alloc: Global,
+    work: &mut W,
+    limits: &Limits,
+) -> Result<Found, WorkFault>
+    ensures found { IsTrue W.tells → IfOk result (IsFound limits.now.listing (W.state work.old).folder) }
+    ensures stamp { IfOk result (λ found. (1 ≤ found.stamp) × (found.stamp ≤ 5)) }
+    ensures fields { IfOk result (λ found. AreFoundFields found.fields found.one found.two) }
+    ensures folder { KeepsFolder W.tells (W.state work.old) (W.state work.new) }
+    ensures writing { (W.state work.new).writing ≡ (W.state work.old).writing }
+    ensures calls { AreWorkCalls (is_device_fault result) (W.state work.old) (W.state work.new) }
+{
+    let one = read_name(alloc, work, WorkName::One, limits)?;
+    let two = read_name(alloc, work, WorkName::Two, limits)?;
+    let marks = (one.mark(), two.mark());
+    match join(one, two) {
+        Ok(listings) => {
+            let one_old = read_name(alloc, work, WorkName::OneOld, limits)?.mark();
+            let two_old = read_name(alloc, work, WorkName::TwoOld, limits)?.mark();
+            let marks = Marks {
+                one: marks.0,
+                two: marks.1,
+                one_old,
+                two_old,
+            };
+            Ok(found_in(Pair::Current, listings, &marks))
+        }
+        Err(apart) => {
+            let two = apart.1;
+            find_older(alloc, work, limits, two, marks)
+        }
     }
 }

@@ -9,6 +9,6 @@ mod new_listings;
 mod stamps;
 
 pub use bases::Pair;
-pub use found::{Found, WorkFault};
+pub use found::{Found, WorkFault, find_base};
 pub use moves::{fall, set_back, switch};
 pub use new_listings::write_new;

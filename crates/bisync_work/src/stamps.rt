@@ -4,7 +4,7 @@ ghost use Rattle.std.specs.Prelude.{◌≡◌, ◌<◌, ◌≤◌, ◌^◌, ℕ,
 ghost use Rattle.bisync_device.specs.WorkFolder.{WorkFolder};
 ghost use Rattle.bisync_work.specs.Stamps.{IsNewStamp};
 ghost use Rattle.bisync_work.specs.BadNames.{IsFirstBad, base_names};
-ghost use Rattle.bisync_work.specs.Standing.{AreMarks, is_stamp as has_this_stamp, has_stamp as has_any_stamp};
+ghost use Rattle.bisync_work.specs.Standing.{AreMarks, is_stamp as has_this_stamp, has_stamp as has_any_stamp, bad_line as own_bad_line};
 
 use bisync_device::WorkName;
 
@@ -26,6 +26,15 @@ pub struct Marks {
 }
 
 impl Mark {
+    fn bad_line(self) -> Option<u64>
+        ensures { result ≡ own_bad_line self }
+    {
+        match self {
+            Mark::Bad(line) => Some(line),
+            Mark::Absent | Mark::Stamp(_) => None,
+        }
+    }
+
     fn is_stamp(self, stamp: u64) -> bool
         ensures { result ≡ has_this_stamp stamp self }
     {
@@ -64,12 +73,18 @@ impl Marks {
     pub fn first_bad(&self) -> Option<(WorkName, u64)>
         ensures { (limit : ℕ) (f : WorkFolder) → AreMarks limit f self.now → IsFirstBad limit f base_names result }
     {
-        match *self {
-            Marks { one: Mark::Bad(line), .. } => Some((WorkName::One, line)),
-            Marks { two: Mark::Bad(line), .. } => Some((WorkName::Two, line)),
-            Marks { one_old: Mark::Bad(line), .. } => Some((WorkName::OneOld, line)),
-            Marks { two_old: Mark::Bad(line), .. } => Some((WorkName::TwoOld, line)),
-            _ => None,
+        if let Some(line) = self.one.bad_line() {
+            return Some((WorkName::One, line));
         }
+        if let Some(line) = self.two.bad_line() {
+            return Some((WorkName::Two, line));
+        }
+        if let Some(line) = self.one_old.bad_line() {
+            return Some((WorkName::OneOld, line));
+        }
+        if let Some(line) = self.two_old.bad_line() {
+            return Some((WorkName::TwoOld, line));
+        }
+        None
     }
 }
