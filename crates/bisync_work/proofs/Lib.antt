@@ -7,3 +7,6 @@ pub mod MarkLaws
 pub mod StampLaws
 pub mod BadNameLaws
 pub mod ReadingLaws
+pub mod NewListingLaws
+pub mod FoundLaws
+pub mod HeaderLaws

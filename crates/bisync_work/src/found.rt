@@ -5,6 +5,7 @@ ghost use Rattle.bisync_work.specs.WorkCalls.{AreWorkCalls, is_device_fault};
 ghost use Rattle.bisync_work.specs.Base.{ArePair, NoPair, HasBaseIn, HasNoBase};
 ghost use Rattle.bisync_work.specs.Found.{IsFound, AreFoundFields, base_of};
 ghost use Rattle.bisync_work.specs.Standing.{IsStanding, IsListedWell, IsMark, AreMarks};
+ghost use Rattle.bisync_work.specs.declared.listing_reads.Standing.TheVariants.{Listed};
 
 use crate::Pair;
 use crate::listing_reads::{Standing, read_name};
@@ -74,6 +75,28 @@ impl Standing {
     }
 }
 
+fn join_listed(
+    header: Header,
+    first: Listing,
+    other: Header,
+    second: Listing,
+) -> Result<Listings, (Standing, Standing)>
+    ensures pair { IfOk result (λ pair. (header ≡ other) × (pair ≡ record { header = header; one = first; two = second })) }
+    ensures apart { IfErr result (λ again. (header ≡ other → ⊥) × (again ≡ (Listed header first, Listed other second))) }
+{
+    if header == other {
+        return Ok(Listings {
+            header,
+            one: first,
+            two: second,
+        });
+    }
+    Err((
+        Standing::Listed(header, first),
+        Standing::Listed(other, second),
+    ))
+}
+
 /// The two as a pair, where both are listings of one header, or the two again.
 fn join(one: Standing, two: Standing) -> Result<Listings, (Standing, Standing)>
     ensures pair { IfOk result (λ pair. (limit : ℕ) (a b : Held) → IsStanding limit a one → IsStanding limit b two → ArePair limit a b (base_of pair)) }
@@ -81,21 +104,12 @@ fn join(one: Standing, two: Standing) -> Result<Listings, (Standing, Standing)>
         × ((limit : ℕ) (a b : Held) → limit < 2 ^ 64 → IsStanding limit a one → IsStanding limit b two → NoPair limit a b)) }
     ensures fields { IsListedWell one → IsListedWell two → IfOk result (λ pair. AreFoundFields pair.header.fields pair.one pair.two) }
 {
-    match (one, two) {
-        (Standing::Listed(header, first), Standing::Listed(other, second)) => {
-            if header == other {
-                return Ok(Listings {
-                    header,
-                    one: first,
-                    two: second,
-                });
-            }
-            Err((
-                Standing::Listed(header, first),
-                Standing::Listed(other, second),
-            ))
-        }
-        apart => Err(apart),
+    match one {
+        Standing::Listed(header, first) => match two {
+            Standing::Listed(other, second) => join_listed(header, first, other, second),
+            second => Err((Standing::Listed(header, first), second)),
+        },
+        first => Err((first, two)),
     }
 }
 
