@@ -162,6 +162,7 @@ fn find_older<W: Work>(
     ensures writing { (W.state work.new).writing ≡ (W.state work.old).writing }
     ensures calls { AreWorkCalls (is_device_fault result) (W.state work.old) (W.state work.new) }
 {
+    let _limit = limits.listing;
     let one_old = read_name(alloc, work, WorkName::OneOld, limits)?;
     let mut marks = Marks {
         one: marks.0,
@@ -199,10 +200,11 @@ pub fn find_base<W: Work>(
     ensures writing { (W.state work.new).writing ≡ (W.state work.old).writing }
     ensures calls { AreWorkCalls (is_device_fault result) (W.state work.old) (W.state work.new) }
 {
+    let _limit = limits.listing;
     let one = read_name(alloc, work, WorkName::One, limits)?;
     let two = read_name(alloc, work, WorkName::Two, limits)?;
     let marks = (one.mark(), two.mark());
-    match join(one, two) {
+    let two = match join(one, two) {
         Ok(listings) => {
             let one_old = read_name(alloc, work, WorkName::OneOld, limits)?.mark();
             let two_old = read_name(alloc, work, WorkName::TwoOld, limits)?.mark();
@@ -212,11 +214,9 @@ pub fn find_base<W: Work>(
                 one_old,
                 two_old,
             };
-            Ok(found_in(Pair::Current, listings, &marks))
+            return Ok(found_in(Pair::Current, listings, &marks));
         }
-        Err(apart) => {
-            let two = apart.1;
-            find_older(alloc, work, limits, two, marks)
-        }
-    }
+        Err(apart) => apart.1,
+    };
+    find_older(alloc, work, limits, two, marks)
 }
