@@ -10,3 +10,4 @@ pub mod ReadingLaws
 pub mod NewListingLaws
 pub mod FoundLaws
 pub mod HeaderLaws
+pub mod BaseLaws

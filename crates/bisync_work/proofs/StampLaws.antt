@@ -82,8 +82,8 @@ in_values : (n : ℕ) (marks : Marks) → has_stamp n marks ≡ true → IsIn n 
 unfolding values
 in_values n marks e =
     or_in n (value marks.one) (value marks.two ∷ value marks.one_old ∷ value marks.two_old ∷ []) (is_stamp n marks.one) (is_stamp n marks.two || (is_stamp n marks.one_old || is_stamp n marks.two_old)) (is_value n marks.one) (λ e2.
-        or_in n (value marks.two) (value marks.one_old ∷ value marks.two_old ∷ []) (is_stamp n marks.two) (is_stamp n marks.one_old || is_stamp n marks.two_old) (is_value n marks.two) (λ e3.
-            or_in n (value marks.one_old) (value marks.two_old ∷ []) (is_stamp n marks.one_old) (is_stamp n marks.two_old) (is_value n marks.one_old) (last_in n (value marks.two_old) (is_stamp n marks.two_old) (is_value n marks.two_old)) e3) e2) e
+    or_in n (value marks.two) (value marks.one_old ∷ value marks.two_old ∷ []) (is_stamp n marks.two) (is_stamp n marks.one_old || is_stamp n marks.two_old) (is_value n marks.two) (λ e3.
+    or_in n (value marks.one_old) (value marks.two_old ∷ []) (is_stamp n marks.one_old) (is_stamp n marks.two_old) (is_value n marks.one_old) (last_in n (value marks.two_old) (is_stamp n marks.two_old) (is_value n marks.two_old)) e3) e2) e
 
 four_values : (marks : Marks) → length (values marks) ≡ 4
 unfolding values
@@ -98,8 +98,8 @@ pub five_unused : (marks : Marks) → ((m : ℕ) → 1 ≤ m → m < 5 → has_s
 five_unused marks all =
     elim (bool_cases (has_stamp 5 marks)) [
       | inl five ↦ absurd (not_five (values marks) (four_values marks)
-        (in_values 1 marks (all 1 (omega arith) (omega arith))) (in_values 2 marks (all 2 (omega arith) (omega arith)))
-        (in_values 3 marks (all 3 (omega arith) (omega arith))) (in_values 4 marks (all 4 (omega arith) (omega arith))) (in_values 5 marks five))
+          (in_values 1 marks (all 1 (omega arith) (omega arith))) (in_values 2 marks (all 2 (omega arith) (omega arith)))
+          (in_values 3 marks (all 3 (omega arith) (omega arith))) (in_values 4 marks (all 4 (omega arith) (omega arith))) (in_values 5 marks five))
       | inr none ↦ none
     ]
 

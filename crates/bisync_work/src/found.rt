@@ -188,11 +188,7 @@ fn find_older<W: Work>(
 /// Finds the base, the first bad name and the new stamp. Each of the four names is read once, in
 /// pieces of at most 4,096 bytes and no further than one byte past `limits.listing`. No name is
 /// changed.
-pub fn find_base<W: Work>(
-    alloc: Global,
-    work: &mut W,
-    limits: &Limits,
-) -> Result<Found, WorkFault>
+pub fn find_base<W: Work>(alloc: Global, work: &mut W, limits: &Limits) -> Result<Found, WorkFault>
     ensures found { IsTrue W.tells → IfOk result (IsFound limits.now.listing (W.state work.old).folder) }
     ensures stamp { IfOk result (λ found. (1 ≤ found.stamp) × (found.stamp ≤ 5)) }
     ensures fields { IfOk result (λ found. AreFoundFields found.fields found.one found.two) }

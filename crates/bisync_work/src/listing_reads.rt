@@ -81,11 +81,7 @@ fn feed_next<W: Work>(
 }
 
 /// Feeds the reader to the end of the open name, or to the first byte past the limit.
-fn feed_all<W: Work>(
-    work: &mut W,
-    reader: &mut ListingReader,
-    limit: u64,
-) -> Result<(), ReadFault>
+fn feed_all<W: Work>(work: &mut W, reader: &mut ListingReader, limit: u64) -> Result<(), ReadFault>
     requires opened { (W.state work.old).reading.opened ≡ true }
     requires new { reader.old ≡ record { limit = limit; text = []; fault = None } }
     ensures limit { reader.new.limit ≡ limit }
