@@ -162,6 +162,7 @@ fn find_older<W: Work>(
     ensures writing { (W.state work.new).writing ≡ (W.state work.old).writing }
     ensures calls { AreWorkCalls (is_device_fault result) (W.state work.old) (W.state work.new) }
 {
+    // Read here, so that its range is known to the proof.
     let _limit = limits.listing;
     let one_old = read_name(alloc, work, WorkName::OneOld, limits)?;
     let mut marks = Marks {
@@ -196,6 +197,7 @@ pub fn find_base<W: Work>(alloc: Global, work: &mut W, limits: &Limits) -> Resul
     ensures writing { (W.state work.new).writing ≡ (W.state work.old).writing }
     ensures calls { AreWorkCalls (is_device_fault result) (W.state work.old) (W.state work.new) }
 {
+    // Read here, so that its range is known to the proof.
     let _limit = limits.listing;
     let one = read_name(alloc, work, WorkName::One, limits)?;
     let two = read_name(alloc, work, WorkName::Two, limits)?;
