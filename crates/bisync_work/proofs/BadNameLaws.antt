@@ -1,5 +1,5 @@
 -- The first bad name, by the marks of names.
-use Rattle.std.proofs.Common.{◌≡◌, ◌⊎◌, ℕ, List, [], Option, Some, None, refl, sym, subst, inl, inr}
+use Rattle.std.proofs.Common.{◌≡◌, ℕ, Some, None, refl, subst, inl, inr}
 use Rattle.bisync_device.specs.WorkFolder.{Held, WorkFolder}
 use Rattle.bisync_device.specs.declared.works.WorkName.TheVariants as name
 use Rattle.bisync_work.specs.BadNames.{IsGood, IsBad, IsFirstBad, base_names}

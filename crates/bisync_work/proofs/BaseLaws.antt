@@ -1,18 +1,16 @@
 -- A folder has one base, one new stamp and one first bad name.
-use Rattle.std.proofs.Common.{◌≡◌, ◌⊎◌, ◌<◌, ◌≤◌, ◌^◌, ℕ, List, [], ◌∷◌, Option, Some, None, refl, sym, ◌∙◌, ap, subst, inl, inr, arith}
-use Rattle.bisync_tree.specs.Rows.{Rows}
-use Rattle.bisync_listing.specs.declared.headers.Header.{Header}
+use Rattle.std.proofs.Common.{◌≡◌, ◌⊎◌, ◌<◌, ◌^◌, ℕ, List, [], ◌∷◌, Option, Some, None, refl, sym, ◌∙◌, ap, subst, inl, inr, arith}
 use Rattle.bisync_listing.specs.FirstBadLine.{IsFirstBadLine}
 use Rattle.bisync_listing.proofs.BadLineLaws.{bad_lines_one}
 use Rattle.bisync_device.specs.declared.works.WorkName.{WorkName}
-use Rattle.bisync_device.specs.WorkFolder.{Held, Absent, WorkFolder, at}
+use Rattle.bisync_device.specs.WorkFolder.{Held, WorkFolder, at}
 use Rattle.bisync_work.specs.declared.bases.Pair.{Pair}
 use Rattle.bisync_work.specs.declared.bases.Pair.TheVariants.{Current, Mixed, Old}
-use Rattle.bisync_work.specs.Base.{Base, HasListing, ArePair, HasBaseIn, HasNoBase, IsBase}
+use Rattle.bisync_work.specs.Base.{Base, ArePair, HasBaseIn, HasNoBase, IsBase}
 use Rattle.bisync_work.specs.Stamps.{HasStamp, LacksStamp, IsUsed, IsUnused, IsNewStamp}
 use Rattle.bisync_work.specs.BadNames.{IsGood, IsBad, IsFirstBad}
 use Rattle.bisync_work.specs.Moves.{KeepsBase, SameListings}
-use Rattle.bisync_work.proofs.PairLaws.{one_listing, same_bytes, no_listing}
+use Rattle.bisync_work.proofs.PairLaws.{one_listing, same_bytes}
 use Rattle.bisync_work.proofs.MarkLaws.{bad_no_listing}
 
 -- # The base

@@ -1,19 +1,18 @@
 -- Which names are a pair, by what was read of them.
-use Rattle.std.proofs.Common.{◌≡◌, ◌<◌, ◌^◌, ℕ, Result, Ok, Err, refl, sym, ◌∙◌, ap, subst}
+use Rattle.std.proofs.Common.{◌≡◌, ◌<◌, ◌^◌, ℕ, Result, Ok, Err, sym, ◌∙◌, ap, subst}
 use Rattle.std.specs.Prelude.{IfOk, IfErr}
 use Rattle.std.specs.List.{AllByRecursion}
 use Rattle.bisync_tree.specs.Rows.{Rows}
 use Rattle.bisync_listing.specs.ListingText.{IsHeader, AreListed, HasDigestFor}
 use Rattle.bisync_listing.specs.declared.headers.Header.{Header}
-use Rattle.bisync_device.specs.WorkFolder.{Held, Absent, WorkFolder}
-use Rattle.bisync_work.specs.Base.{Base, HasListing, ArePair, NoPair}
-use Rattle.bisync_work.specs.BadNames.{IsBad}
+use Rattle.bisync_device.specs.WorkFolder.{Held}
+use Rattle.bisync_work.specs.Base.{HasListing, ArePair, NoPair}
 use Rattle.bisync_work.specs.Found.{AreFoundFields, base_of}
 use Rattle.bisync_work.specs.declared.found.Listings.{Listings}
 use Rattle.bisync_work.specs.Standing.{IsStanding, IsListedWell}
 use Rattle.bisync_work.specs.declared.listing_reads.Standing.{Standing}
 use Rattle.bisync_work.specs.declared.listing_reads.Standing.TheVariants as standing
-use Rattle.bisync_work.proofs.PairLaws.{no_first, no_second, one_listing}
+use Rattle.bisync_work.proofs.PairLaws.{no_first, one_listing}
 use Rattle.bisync_work.proofs.MarkLaws.{bad_no_listing}
 
 abbrev pub IsUnlisted : Standing → Type 0

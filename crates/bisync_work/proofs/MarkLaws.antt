@@ -1,10 +1,10 @@
 -- What marks of names say of their stamps.
-use Rattle.std.proofs.Common.{◌≡◌, ◌≢◌, ◌⊎◌, ◌==◌, ◌||◌, ◌<◌, ◌^◌, ℕ, Bool, true, false, List, Some, refl, sym, ◌∙◌, ap, subst, inl, inr, arith, eq-eqb}
+use Rattle.std.proofs.Common.{◌≡◌, ◌⊎◌, ◌==◌, ◌||◌, ◌<◌, ◌^◌, ℕ, Bool, true, false, refl, sym, ◌∙◌, ap, subst, inl, inr, arith, eq-eqb}
 use Rattle.std.proofs.lemmas.Bool.Decides.{nat_tests}
 use Rattle.bisync_tree.specs.Rows.{Rows}
 use Rattle.bisync_listing.specs.declared.headers.Header.{Header}
 use Rattle.bisync_listing.specs.ListingText.{IsListingText}
-use Rattle.bisync_device.specs.WorkFolder.{Held, Absent, WorkFolder, bytes_of}
+use Rattle.bisync_device.specs.WorkFolder.{Held, Absent, WorkFolder}
 use Rattle.bisync_work.specs.Base.{HasListing}
 use Rattle.bisync_work.specs.Stamps.{HasStamp, LacksStamp, IsUsed, IsUnused}
 use Rattle.bisync_work.specs.BadNames.{IsBad}

@@ -1,5 +1,5 @@
 -- A name that is written in pieces and synced.
-use Rattle.std.proofs.Common.{◌≡◌, ◌++◌, List, ℕ, refl, ◌∙◌, ap}
+use Rattle.std.proofs.Common.{◌≡◌, ◌++◌, List, ℕ, ◌∙◌, ap}
 use Rattle.bisync_device.specs.declared.works.WorkName.{WorkName}
 use Rattle.bisync_device.specs.WorkFolder.{Held, Kept, Loose, WorkFolder, at, with_held, appended, synced}
 use Rattle.bisync_device.proofs.WorkFolderLaws.{with_held-twice, at-with_held}

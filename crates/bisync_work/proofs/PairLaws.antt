@@ -1,11 +1,11 @@
 -- Names that are not there or were moved over others, and the pairs and stamps that they have.
-use Rattle.std.proofs.Common.{◌≡◌, ◌≢◌, ◌<◌, ◌^◌, ℕ, refl, sym, ◌∙◌, ap, subst, List, Option, Some, None}
+use Rattle.std.proofs.Common.{◌≡◌, ◌<◌, ◌^◌, ℕ, refl, sym, ◌∙◌, subst, List, Some, None}
 use Rattle.bisync_tree.specs.Rows.{Rows}
 use Rattle.bisync_listing.specs.ListingText.{IsListingText}
 use Rattle.bisync_listing.specs.declared.headers.Header.{Header}
 use Rattle.bisync_listing.proofs.ListingLaws.{listing_text_one}
-use Rattle.bisync_device.specs.WorkFolder.{Held, Absent, Kept, Loose, bytes_of, IsSynced}
-use Rattle.bisync_work.specs.Base.{Base, HasListing, ArePair, NoPair}
+use Rattle.bisync_device.specs.WorkFolder.{Held, Absent, Kept, Loose, IsSynced}
+use Rattle.bisync_work.specs.Base.{HasListing, NoPair}
 use Rattle.bisync_work.specs.Stamps.{LacksStamp}
 use Rattle.bisync_work.specs.Moves.{moved_over}
 

@@ -1,6 +1,5 @@
 -- A text that is longer than the limit is seen to be bad, and a bad text stays so.
-use Rattle.std.proofs.Common.{◌≡◌, ◌⊎◌, ◌+◌, ◌<◌, ◌≤◌, ◌^◌, ℕ, List, [], ◌∷◌, ◌++◌, length, refl, sym, ◌∙◌, ap, subst, inl, inr, arith, length-append}
-use Rattle.std.proofs.lemmas.List.{append-nil}
+use Rattle.std.proofs.Common.{◌≡◌, ◌⊎◌, ◌<◌, ◌^◌, ℕ, List, [], ◌∷◌, ◌++◌, length, refl, sym, ◌∙◌, ap, subst, inl, inr, arith, length-append}
 use Rattle.bisync_listing.specs.Words.{Lacks, text_of_lines}
 use Rattle.bisync_listing.specs.FirstBadLine.{AreAsRequired, IsFirstBadLine, IsSettled}
 use Rattle.bisync_listing.specs.Answers.{IsFault, IsSettledFault, IsGoodSoFar}

@@ -1,8 +1,8 @@
 -- What each rename of a switch leaves.
-use Rattle.std.proofs.Common.{◌≡◌, ◌⊎◌, ◌<◌, ◌^◌, ℕ, refl, sym, ◌∙◌, ap, subst, inl, inr, Option, Some, None}
+use Rattle.std.proofs.Common.{◌≡◌, ◌<◌, ◌^◌, ℕ, refl, sym, ◌∙◌, ap, subst, inl, inr, Option, Some, None}
 use Rattle.bisync_listing.specs.declared.headers.Header.{Header}
 use Rattle.bisync_device.specs.declared.works.WorkName.TheVariants as name
-use Rattle.bisync_device.specs.WorkFolder.{Held, Absent, WorkFolder}
+use Rattle.bisync_device.specs.WorkFolder.{Held, WorkFolder}
 use Rattle.bisync_work.specs.declared.bases.Pair.{Pair}
 use Rattle.bisync_work.specs.declared.bases.Pair.TheVariants.{Current, Mixed, Old}
 use Rattle.bisync_work.specs.Base.{Base, ArePair, NoPair, HasBaseIn, IsBase}

@@ -1,5 +1,5 @@
 -- What the moves of a work folder leave, at every exit.
-use Rattle.std.specs.Prelude.{◌≡◌, ◌⊎◌, ◌<◌, ◌^◌, ℕ, Option, Some, None}
+use Rattle.std.specs.Prelude.{◌≡◌, ◌⊎◌, ◌<◌, ◌^◌, ℕ, Option, Some}
 use Rattle.bisync_device.specs.WorkFolder.{Held, Absent, Kept, Loose, WorkFolder, IsSynced, IsSettled}
 use Rattle.bisync_work.specs.declared.bases.Pair.{Pair}
 use Rattle.bisync_work.specs.declared.bases.Pair.TheVariants.{Current}

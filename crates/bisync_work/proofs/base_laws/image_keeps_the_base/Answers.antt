@@ -1,5 +1,4 @@
 use Rattle.bisync_device.specs.WorkFolder.{WorkFolder, IsSettled, IsImage}
-use Rattle.bisync_device.specs.WorkImages.{ReadsAlike}
 use Rattle.bisync_device.proofs.WorkFolderLaws.{image-settled}
 use Rattle.bisync_work.specs.Moves.{SameListings}
 use Rattle.bisync_work.proofs.BaseLaws.{same_keeps, same_in_pair}

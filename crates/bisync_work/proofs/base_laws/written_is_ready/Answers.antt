@@ -1,4 +1,4 @@
-use Rattle.std.proofs.Common.{◌≡◌, ◌⊎◌, ℕ, sym, ap, subst, inl, inr, refl}
+use Rattle.std.proofs.Common.{◌≡◌, ◌⊎◌, ℕ, sym, ap, subst, inl, inr}
 use Rattle.bisync_tree.specs.Rows.{Rows}
 use Rattle.bisync_listing.specs.Spelling.{listing_text}
 use Rattle.bisync_listing.specs.ListingText.{IsListingText}

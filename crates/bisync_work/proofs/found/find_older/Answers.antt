@@ -1,6 +1,5 @@
 use Rattle.std.proofs.Common.{sym, subst, arith, ◌<◌, ◌^◌}
 use Rattle.bisync_device.specs.WorkFolder.{WorkFolder}
-use Rattle.bisync_work.specs.declared.listing_reads.Standing.{Standing}
 use Rattle.bisync_work.specs.Standing.{IsStanding}
 use Rattle.bisync_work.proofs.found.find_older.Goals as goal
 

@@ -1,5 +1,4 @@
 use Rattle.bisync_device.specs.declared.works.WorkName.TheVariants.{One, OneOld, OneErr, Two, TwoOld, TwoErr}
-use Rattle.bisync_device.specs.WorkFolder.{WorkFolder}
 use Rattle.bisync_work.specs.Moves.{Falls}
 use Rattle.std.proofs.Common.{refl}
 use Rattle.bisync_work.proofs.RenameLaws.{worked, failed}

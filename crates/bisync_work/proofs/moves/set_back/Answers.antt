@@ -1,11 +1,11 @@
-use Rattle.std.proofs.Common.{refl, sym, subst}
+use Rattle.std.proofs.Common.{sym, subst}
 use Rattle.bisync_device.specs.declared.works.WorkName.TheVariants.{One, OneOld, Two, TwoOld}
 use Rattle.bisync_device.specs.WorkFolder.{WorkFolder}
 use Rattle.bisync_work.specs.declared.bases.Pair.{Pair}
 use Rattle.bisync_work.specs.declared.bases.Pair.TheVariants.{Current, Mixed, Old}
 use Rattle.bisync_work.specs.Base.{HasBaseIn}
 use Rattle.bisync_work.specs.Moves.{SetsBack}
-use Rattle.bisync_work.proofs.RenameLaws.{over, worked, failed}
+use Rattle.bisync_work.proofs.RenameLaws.{worked, failed}
 use Rattle.bisync_work.proofs.SetBackLaws.{sets_refl, back_one, back_two, back_two_in, back_one_in, set_back_then}
 use Rattle.bisync_work.proofs.moves.set_back.Goals as goal
 
