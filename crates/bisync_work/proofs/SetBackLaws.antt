@@ -1,7 +1,7 @@
 -- What each rename of a set back leaves.
-use Rattle.std.proofs.Common.{◌≡◌, ℕ, refl, sym, ◌∙◌, subst, Option, Some, None}
+use Rattle.std.proofs.Common.{◌≡◌, ℕ, refl, sym, ◌∙◌, ap, subst, Option, Some, None}
 use Rattle.bisync_device.specs.declared.works.WorkName.TheVariants as name
-use Rattle.bisync_device.specs.WorkFolder.{Held, WorkFolder}
+use Rattle.bisync_device.specs.WorkFolder.{Held, Absent, WorkFolder}
 use Rattle.bisync_work.specs.declared.bases.Pair.{Pair}
 use Rattle.bisync_work.specs.declared.bases.Pair.TheVariants.{Current, Mixed, Old}
 use Rattle.bisync_work.specs.Base.{Base, ArePair, HasBaseIn, IsBase}
@@ -84,7 +84,7 @@ set_back_then {f = f} {g = g} {h = h} did next =
     record {
       base = λ limit b p. keeps_then limit (first.base limit b p) (next.base limit b (moved limit b p));
       settled = λ s. next.settled (first.settled s);
-      rest = next.rest ∙ first.rest;
+      rest = ap (λ (x : WorkFolder). record x { one = Absent; one_old = Absent }) next.rest ∙ first.rest;
     }
   where
     moved : (limit : ℕ) (b : Base) → HasBaseIn limit f Current b → HasBaseIn limit g Mixed b

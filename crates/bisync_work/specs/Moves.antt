@@ -2,13 +2,15 @@
 use Rattle.std.specs.Prelude.{◌≡◌, ◌⊎◌, ◌<◌, ◌^◌, ℕ, Option, Some}
 use Rattle.bisync_device.specs.WorkFolder.{Held, Absent, Kept, Loose, WorkFolder, IsSynced, IsSettled}
 use Rattle.bisync_work.specs.declared.bases.Pair.{Pair}
-use Rattle.bisync_work.specs.declared.bases.Pair.TheVariants.{Current}
+use Rattle.bisync_work.specs.declared.bases.Pair.TheVariants.{Current, Mixed, Old}
 use Rattle.bisync_work.specs.Base.{Base, HasListing, NoPair, HasBaseIn, HasNoBase, IsBase}
 use Rattle.bisync_work.specs.Stamps.{IsUnused}
 
--- all but the four names of a base
-abbrev pub but_listings : WorkFolder → WorkFolder
-but_listings f = record f { one = Absent; two = Absent; one_old = Absent; two_old = Absent }
+-- all but the names that a set back from the pair moves
+abbrev pub but_set_back : Pair → WorkFolder → WorkFolder
+but_set_back Current f = record f { one = Absent; two = Absent; one_old = Absent; two_old = Absent }
+but_set_back Mixed f = record f { two = Absent; two_old = Absent }
+but_set_back Old f = f
 
 -- all but the names that a switch moves
 abbrev pub but_switched : WorkFolder → WorkFolder
@@ -23,11 +25,12 @@ pub record KeepsBase (limit : ℕ) (old new : WorkFolder) : Type 0 where
   pub base : (base : Option Base) → IsBase limit old base → IsBase limit new base
   pub unused : (n : ℕ) → IsUnused limit old n → IsUnused limit new n
 
--- The base of the pair is as before. What was settled still is, and only the four names of a base changed.
+-- The base of the pair is as before. What was settled still is, and only the names that are to be moved
+-- from there changed.
 pub record SetsBack (pair : Pair) (old new : WorkFolder) : Type 0 where
   pub base : (limit : ℕ) (base : Base) → HasBaseIn limit old pair base → KeepsBase limit old new
   pub settled : IsSettled old → IsSettled new
-  pub rest : but_listings new ≡ but_listings old
+  pub rest : but_set_back pair new ≡ but_set_back pair old
 
 -- The base is as before, or there is none. A stamp that was unused still is, what was settled still is, and only the
 -- four names of a base and the -err names changed.
