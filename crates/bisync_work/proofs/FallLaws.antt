@@ -5,6 +5,7 @@ use Rattle.bisync_device.specs.WorkFolder.{Held, Absent, WorkFolder}
 use Rattle.bisync_work.specs.declared.bases.Pair.{Pair}
 use Rattle.bisync_work.specs.declared.bases.Pair.TheVariants.{Current, Mixed, Old}
 use Rattle.bisync_work.specs.Base.{Base, NoPair, HasBaseIn, HasNoBase, IsBase}
+use Rattle.bisync_work.specs.Stamps.{LacksStamp, IsUnused}
 use Rattle.bisync_work.specs.Moves.{Falls, IsFallen}
 use Rattle.bisync_work.proofs.RenameLaws.{over}
 use Rattle.bisync_work.proofs.PairLaws.{no_first, lacks_absent}
@@ -106,3 +107,17 @@ fallen {f = f} {l = l} a b c d =
     let whole : l ≡ over name.Two name.TwoErr (over name.TwoOld name.TwoErr (over name.One name.OneErr (over name.OneOld name.OneErr f))) =
     d ∙ ap (over name.Two name.TwoErr) (c ∙ ap (over name.TwoOld name.TwoErr) (b ∙ ap (over name.One name.OneErr) a)) in
     subst (IsFallen f) (sym whole) (record { one = refl; two = refl; one_old = refl; two_old = refl; one_err = refl; two_err = refl })
+
+pub fallen_none : (limit : ℕ) (f g : WorkFolder) → IsFallen f g → HasNoBase limit g
+fallen_none limit f g gone = none_of g limit g.one g.one_old g.two g.two_old gone.one gone.one_old
+
+lacks_gone : (limit n : ℕ) (held : Held) → held ≡ Absent → LacksStamp limit held n
+lacks_gone limit n held gone = subst (λ (h : Held). LacksStamp limit h n) (sym gone) (lacks_absent limit n)
+
+pub fallen_unused : (limit n : ℕ) (f g : WorkFolder) → IsFallen f g → IsUnused limit g n
+fallen_unused limit n f g gone = record {
+  one = lacks_gone limit n g.one gone.one;
+  two = lacks_gone limit n g.two gone.two;
+  one_old = lacks_gone limit n g.one_old gone.one_old;
+  two_old = lacks_gone limit n g.two_old gone.two_old;
+}

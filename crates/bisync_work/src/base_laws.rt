@@ -11,7 +11,7 @@ ghost use Rattle.bisync_device.specs.declared.works.WorkName.{WorkName};
 ghost use Rattle.bisync_work.specs.Base.{Base, HasBaseIn, HasNoBase, IsBase};
 ghost use Rattle.bisync_work.specs.Stamps.{IsUnused, IsNewStamp};
 ghost use Rattle.bisync_work.specs.BadNames.{IsFirstBad, base_names};
-ghost use Rattle.bisync_work.specs.Moves.{KeepsBase, Falls, SameListings, IsReady};
+ghost use Rattle.bisync_work.specs.Moves.{KeepsBase, Falls, IsFallen, SameListings, IsReady};
 ghost use Rattle.bisync_work.specs.NewListings.{AreWritten};
 ghost use Rattle.bisync_work.specs.declared.bases.Pair.{Pair};
 ghost use Rattle.bisync_work.specs.declared.bases.Pair.TheVariants.{Old};
@@ -55,6 +55,12 @@ pub fn moves_follow_one_another()
 pub fn no_base_stays()
     ensures kept { (limit : ℕ) (f g : WorkFolder) → HasNoBase limit f → KeepsBase limit f g → HasNoBase limit g }
     ensures fallen { (limit : ℕ) (f g : WorkFolder) → HasNoBase limit f → Falls f g → HasNoBase limit g }
+{}
+
+/// A law: a fall that was done leaves no base, and no stamp in use.
+pub fn fallen_has_no_base()
+    ensures none { (limit : ℕ) (f g : WorkFolder) → IsFallen f g → HasNoBase limit g }
+    ensures unused { (limit n : ℕ) (f g : WorkFolder) → IsFallen f g → IsUnused limit g n }
 {}
 
 /// A law: new listings that were written within the limit, of a stamp that is unused, are ready for

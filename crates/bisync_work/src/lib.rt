@@ -12,8 +12,8 @@ mod new_listings;
 mod stamps;
 
 pub use base_laws::{
-    image_keeps_the_base, moves_follow_one_another, no_base_stays, one_bad_name, one_base,
-    one_new_stamp, same_listings_same_base, written_is_ready,
+    fallen_has_no_base, image_keeps_the_base, moves_follow_one_another, no_base_stays,
+    one_bad_name, one_base, one_new_stamp, same_listings_same_base, written_is_ready,
 };
 pub use bases::Pair;
 pub use found::{Found, WorkFault, find_base};
