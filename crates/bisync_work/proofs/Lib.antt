@@ -3,3 +3,16 @@ pub mod FrontLaws
 pub mod LockLaws
 pub mod LockTextLaws
 pub mod RulesFileLaws
+pub mod RenameLaws
+pub mod PairLaws
+pub mod SetBackLaws
+pub mod SwitchLaws
+pub mod FallLaws
+pub mod MarkLaws
+pub mod StampLaws
+pub mod BadNameLaws
+pub mod ReadingLaws
+pub mod NewListingLaws
+pub mod FoundLaws
+pub mod HeaderLaws
+pub mod BaseLaws

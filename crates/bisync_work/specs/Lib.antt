@@ -5,3 +5,11 @@ pub mod LockBytes
 pub mod LockTexts
 pub mod Locks
 pub mod RulesFiles
+pub mod WorkCalls
+pub mod Base
+pub mod Stamps
+pub mod BadNames
+pub mod Standing
+pub mod Moves
+pub mod NewListings
+pub mod Found

@@ -1,0 +1,8 @@
+use Rattle.bisync_work.proofs.BaseLaws.{same_keeps, same_in_pair}
+use Rattle.bisync_work.proofs.base_laws.same_listings_same_base.Goals as goal
+
+pub returns-clause-keeps : goal.returns-clause-keeps
+returns-clause-keeps c = same_keeps
+
+pub returns-clause-pair : goal.returns-clause-pair
+returns-clause-pair c = same_in_pair
