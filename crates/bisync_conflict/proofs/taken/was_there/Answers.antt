@@ -1,0 +1,10 @@
+use Rattle.std.proofs.Common.{◌∙◌, sym, ◌++◌}
+use Rattle.bisync_tree.specs.Rows.{keys}
+use Rattle.bisync_conflict.proofs.SetsOfNames.{first_holds, second_decides}
+use Rattle.bisync_conflict.proofs.taken.was_there.Goals as goal
+
+pub returns-then-holds : goal.returns-then-holds
+returns-then-holds c = c.if-holds.true ∙ first_holds c.args.name.now (keys c.args.view.now.prior1) (keys c.args.view.now.prior2) (sym c.holds.ensures ∙ c.if-holds.true)
+
+pub returns-else-holds : goal.returns-else-holds
+returns-else-holds c = second_decides c.args.name.now (keys c.args.view.now.prior1) (keys c.args.view.now.prior2) c.holds-else-holds.result (sym c.holds.ensures ∙ c.if-holds.false) c.holds-else-holds.ensures
