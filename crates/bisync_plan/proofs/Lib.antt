@@ -7,3 +7,4 @@ pub mod ResyncRows
 pub mod FirstApart
 pub mod FinalTexts
 pub mod PlannedRuns
+pub mod ListedParts

@@ -24,7 +24,8 @@ use Rattle.bisync_model.specs.Plan.{moved, winner_steps, deletes_by as deletes_o
 use Rattle.bisync_model.specs.Views.{known_of}
 use Rattle.bisync_model.proofs.PlaceTests.{side_is_itself}
 use Rattle.bisync_table.specs.Cells.{rule_in}
-use Rattle.bisync_plan.specs.CellSteps.{winner_in, deletes_by, deletes_in, copied_from, head_name, rest_names, moves_by, rest_by, moves_with}
+use Rattle.bisync_conflict.specs.Cells.{winner_in}
+use Rattle.bisync_plan.specs.CellSteps.{deletes_by, deletes_in, copied_from, head_name, rest_names, moves_by, rest_by, moves_with}
 
 -- what is left of the names after one possible loser
 record IsTaken (known : Known) (a : Bool) (side : Side) (p : PathBytes) (later : List (PathBytes × Side)) (gs : List Given) : Type 0 where

@@ -17,7 +17,8 @@ use Rattle.bisync_tree.specs.declared.views.View.{View}
 use Rattle.bisync_model.specs.Trees.{by_side}
 use Rattle.bisync_model.specs.Finals.{brought_entry}
 use Rattle.bisync_table.specs.Cells.{rule_in}
-use Rattle.bisync_plan.specs.CellSteps.{now_in, winner_in, source_in}
+use Rattle.bisync_conflict.specs.Cells.{winner_in}
+use Rattle.bisync_plan.specs.CellSteps.{now_in, source_in}
 
 abbrev pub carried_in : CellValue → Side → Side → Window → Option Entry
 carried_in cell from side w = if is_side from side then now_in cell from else option_map (brought_entry w) (now_in cell from)

@@ -14,17 +14,15 @@ use Rattle.bisync_tree.specs.declared.classes.Rule.{Rule}
 use Rattle.bisync_tree.specs.declared.classes.Rule.TheVariants.{Nothing, Copy as CopyFrom, Delete as DeleteOn, Conflict}
 use Rattle.bisync_tree.specs.declared.steps.Given.{Given}
 use Rattle.bisync_tree.specs.declared.steps.Step.{Step}
-use Rattle.bisync_model.specs.Conflict.{winner, winner_of, gets_name}
+use Rattle.bisync_model.specs.Conflict.{winner, gets_name}
 use Rattle.bisync_model.specs.Plan.{copied, deleted, moved}
 use Rattle.bisync_table.specs.Cells.{rule_in}
+use Rattle.bisync_conflict.specs.Cells.{winner_in}
 use Rattle.std.specs.Prelude.{unwrap_or}
 
 abbrev pub now_in : CellValue → Side → Option Entry
 now_in cell One = cell.now1
 now_in cell Two = cell.now2
-
-abbrev pub winner_in : ConflictRule → Compare → CellValue → Option Side
-winner_in conflict c cell = winner_of conflict.prefer c.window cell.now1 cell.now2
 
 abbrev pub deletes_by : CellValue → Rule → List Step
 deletes_by cell (DeleteOn side) = deleted side cell.path (now_in cell side)

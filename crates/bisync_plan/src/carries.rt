@@ -5,7 +5,8 @@ ghost use Rattle.bisync_tree.specs.Walk.{seen};
 ghost use Rattle.bisync_model.specs.Finals.{brought_entry};
 ghost use Rattle.bisync_plan.specs.CellRows.{carried_in, kept_in, resynced_in, carried_at};
 
-use crate::cells::{now, source_of_cell, winner_of_cell};
+use crate::cells::{now, source_of_cell};
+use bisync_conflict::winners::winner_of_cell;
 use bisync_table::table::rule_of_cell;
 use bisync_tree::{Cell, Compare, ConflictRule, Entry, Given, Prefer, Rule, Side, View, Window};
 

@@ -2,10 +2,10 @@
 
 ghost use Rattle.std.specs.Prelude.{◌≡◌, option_copied};
 ghost use Rattle.bisync_tree.specs.Walk.{seen};
-ghost use Rattle.bisync_plan.specs.CellSteps.{now_in, winner_in, source_in};
+ghost use Rattle.bisync_plan.specs.CellSteps.{now_in, source_in};
 
 use bisync_conflict::winners::winner;
-use bisync_tree::{Cell, Compare, ConflictRule, Entry, Prefer, Side, same};
+use bisync_tree::{Cell, Compare, Entry, Prefer, Side, same};
 
 /// The entry now of a side.
 pub(crate) fn now<'a>(cell: &Cell<'a>, side: Side) -> Option<&'a Entry>
@@ -14,20 +14,6 @@ pub(crate) fn now<'a>(cell: &Cell<'a>, side: Side) -> Option<&'a Entry>
     match side {
         Side::One => cell.now1,
         Side::Two => cell.now2,
-    }
-}
-
-/// The side whose file wins, where both have one.
-pub(crate) fn winner_of_cell(
-    conflict: &ConflictRule,
-    compare: &Compare,
-    cell: &Cell<'_>,
-) -> Option<Side>
-    ensures { result ≡ winner_in conflict.now compare.now (seen cell.now) }
-{
-    match (cell.now1, cell.now2) {
-        (Some(one), Some(two)) => winner(conflict.prefer, compare.window, one, two),
-        _ => None,
     }
 }
 

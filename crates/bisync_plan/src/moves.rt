@@ -8,7 +8,8 @@ ghost use Rattle.bisync_model.specs.Plan.{copied, deleted, moved};
 ghost use Rattle.bisync_plan.specs.CellSteps.{deletes_in, copied_from, head_name, rest_names, lost_name, lost_rest};
 ghost use Rattle.bisync_plan.specs.CellSteps.{both_rest, settling, moves_by, rest_by};
 
-use crate::cells::{now, winner_of_cell};
+use crate::cells::now;
+use bisync_conflict::winners::winner_of_cell;
 use bisync_table::table::rule_of_cell;
 use bisync_text::{OutOfMemory, Path};
 use bisync_tree::{Cell, Compare, ConflictRule, Entry, Given, Loser, Rule, Side, Step};

@@ -1,1 +1,428 @@
+//! Plans by worked examples.
 
+ghost use Rattle.std.specs.Prelude.{◌≡◌, false, IfOk};
+ghost use Rattle.std.specs.List.{list_all};
+ghost use Rattle.bisync_tree.specs.Ranges.{is_suffix, is_suffix_byte, IsSuffix, HasSuffixes};
+ghost use Rattle.bisync_tree.specs.Rows.{keys, passing};
+ghost use Rattle.bisync_model.specs.Views.{IsNarrowed, IsComplete};
+ghost use Rattle.bisync_filter.specs.Passing.{rules_pass};
+ghost use Rattle.bisync_plan.specs.Conditions.{HasDigests};
+
+use crate::planning::{plan, plan_resync};
+use crate::{Plan, PlanFault};
+use bisync_filter::Rules;
+use bisync_text::{Path, Text};
+use bisync_tree::{
+    Compare, ConflictRule, Entry, Limits, Listing, Loser, Names, Prefer, Side, Step, View, Window,
+};
+use std::alloc::Global;
+use std::test::Fail;
+
+/// A path, a size, and a time in tenths of a second.
+type Row<'a> = (&'a str, u64, i64);
+
+/// The listing of rows in byte order of their paths, without digests.
+fn listing(alloc: Global, rows: &[Row<'_>]) -> Result<Listing, Fail>
+    ensures { IfOk result (λ listing. (compare : Compare) → compare.hash ≡ false → HasDigests compare listing) }
+{
+    let mut listing = Listing::new(alloc);
+    for (text, size, tenths) in rows {
+        let path = Path::read(alloc, text.as_bytes())?;
+        if !listing.may_push(&path) {
+            return Err(Fail::new("the paths don't rise"));
+        }
+        let entry = Entry {
+            size: *size,
+            time: tenths.wrapping_mul(100_000_000),
+            hash: None,
+        };
+        listing.push(path, entry)?;
+    }
+    Ok(listing)
+}
+
+/// The rows whose paths pass.
+fn part(alloc: Global, rules: &Rules, listing: &Listing) -> Result<Listing, Fail>
+    ensures { IfOk result (λ part. part ≡ passing (rules_pass rules.now) listing.now) }
+{
+    let mut part = Listing::new(alloc);
+    for i in 0..listing.len() {
+        let path = listing.path_at(i);
+        let entry = listing.entry_at(i);
+        if rules.passes(path) {
+            if !part.may_push(path) {
+                return Err(Fail::new("the paths don't rise"));
+            }
+            part.push(path.copy(alloc)?, *entry)?;
+        }
+    }
+    Ok(part)
+}
+
+/// The paths of a listing.
+fn names(alloc: Global, listing: &Listing) -> Result<Names, Fail>
+    ensures { IfOk result (λ names. names ≡ keys listing.now) }
+{
+    let mut names = Names::new(alloc);
+    for i in 0..listing.len() {
+        let path = listing.path_at(i);
+        if !names.may_push(path) {
+            return Err(Fail::new("the paths don't rise"));
+        }
+        names.push(path.copy(alloc)?)?;
+    }
+    Ok(names)
+}
+
+/// The view of these base listings and all that is on both sides now.
+fn view(alloc: Global, rules: &Rules, bases: &[&[Row<'_>]; 2], now: &[&[Row<'_>]; 2]) -> Result<View, Fail>
+    ensures narrowed { IfOk result (λ view. IsNarrowed (rules_pass rules.now) view) }
+    ensures complete { IfOk result (λ view. IsComplete view) }
+    ensures digests1 { IfOk result (λ view. (compare : Compare) → compare.hash ≡ false → HasDigests compare view.now1) }
+    ensures digests2 { IfOk result (λ view. (compare : Compare) → compare.hash ≡ false → HasDigests compare view.now2) }
+{
+    let prior1 = listing(alloc, bases[0])?;
+    let prior2 = listing(alloc, bases[1])?;
+    let all1 = listing(alloc, now[0])?;
+    let all2 = listing(alloc, now[1])?;
+    let base1 = part(alloc, rules, &prior1)?;
+    let base2 = part(alloc, rules, &prior2)?;
+    let now1 = part(alloc, rules, &all1)?;
+    let now2 = part(alloc, rules, &all2)?;
+    let names1 = names(alloc, &all1)?;
+    let names2 = names(alloc, &all2)?;
+    Ok(View {
+        prior1,
+        prior2,
+        base1,
+        base2,
+        now1,
+        now2,
+        names1,
+        names2,
+    })
+}
+
+/// Whether a byte may stand in a suffix.
+fn is_suffix_byte(b: u8) -> bool
+    ensures { result ≡ is_suffix_byte b }
+{
+    b != b'/' && b != b',' && b != 0
+}
+
+/// Whether all bytes may.
+fn has_suffix_bytes(text: &str) -> bool
+    ensures { result ≡ list_all is_suffix_byte text.now }
+{
+    text.as_bytes().iter().all(|b| is_suffix_byte(*b))
+}
+
+/// Whether the text may be a suffix.
+fn is_suffix(text: &str) -> bool
+    ensures { result ≡ is_suffix text.now }
+{
+    if text.is_empty() || text.len() > 64 {
+        return false;
+    }
+    has_suffix_bytes(text)
+}
+
+/// The suffix of this text.
+fn suffix(alloc: Global, text: &str) -> Result<Text, Fail>
+    ensures { IfOk result IsSuffix }
+{
+    if !is_suffix(text) {
+        return Err(Fail::new("the text is no suffix"));
+    }
+    Ok(Text::from_bytes(alloc, text.as_bytes())?)
+}
+
+/// A rule with the suffix `conflict` on both sides.
+fn conflict_rule(alloc: Global, prefer: Prefer, loser: Loser) -> Result<ConflictRule, Fail>
+    ensures { IfOk result (λ rule. HasSuffixes rule) }
+{
+    Ok(ConflictRule {
+        prefer,
+        loser,
+        suffix1: suffix(alloc, "conflict")?,
+        suffix2: suffix(alloc, "conflict")?,
+    })
+}
+
+/// A path as text.
+fn text_of(path: &Path) -> Result<&str, Fail> {
+    match std::str::from_utf8(path.as_bytes()) {
+        Ok(text) => Ok(text),
+        Err(_) => Err(Fail::new("a path isn't UTF-8")),
+    }
+}
+
+/// The number of a side.
+fn number(side: Side) -> u8 {
+    match side {
+        Side::One => 1,
+        Side::Two => 2,
+    }
+}
+
+/// Adds the line of a step.
+fn add_step(alloc: Global, lines: &mut String, step: &Step) -> Result<(), Fail> {
+    let line = match step {
+        Step::Copy { from, path, entry } => {
+            format!(in alloc; "copy {} {} {}\n", number(*from), text_of(path)?, entry.size)?
+        }
+        Step::Rename {
+            side,
+            from,
+            to,
+            entry,
+        } => {
+            format!(in alloc; "rename {} {} {} {}\n", number(*side), text_of(from)?, text_of(to)?, entry.size)?
+        }
+        Step::Delete { side, path, entry } => {
+            format!(in alloc; "delete {} {} {}\n", number(*side), text_of(path)?, entry.size)?
+        }
+    };
+    lines.push_str(line.as_str())?;
+    Ok(())
+}
+
+/// Adds a line for each row of a side's listing: the size and the time in nanoseconds.
+fn add_rows(alloc: Global, lines: &mut String, side: Side, listing: &Listing) -> Result<(), Fail> {
+    for i in 0..listing.len() {
+        let entry = listing.entry_at(i);
+        let path = text_of(listing.path_at(i))?;
+        let line = format!(in alloc; "{}: {} {} {}\n", number(side), path, entry.size, entry.time)?;
+        lines.push_str(line.as_str())?;
+    }
+    Ok(())
+}
+
+/// The plan or why there is none, in lines.
+fn told(alloc: Global, made: &Result<Plan, PlanFault>) -> Result<String, Fail> {
+    let mut lines = String::new(alloc);
+    match made {
+        Ok(plan) => {
+            for step in &plan.steps {
+                add_step(alloc, &mut lines, step)?;
+            }
+            add_rows(alloc, &mut lines, Side::One, &plan.final1)?;
+            add_rows(alloc, &mut lines, Side::Two, &plan.final2)?;
+        }
+        Err(PlanFault::TooLong(side, _)) => {
+            let line = format!(in alloc; "too long on {}\n", number(*side))?;
+            lines.push_str(line.as_str())?;
+        }
+        Err(PlanFault::ListingTooLong(side, size)) => {
+            let line = format!(in alloc; "listing {} has {}\n", number(*side), size)?;
+            lines.push_str(line.as_str())?;
+        }
+        Err(PlanFault::OutOfSync(path, one, two)) => {
+            let one = one.as_ref().map_or(0, |entry| entry.size);
+            let two = two.as_ref().map_or(0, |entry| entry.size);
+            let line = format!(in alloc; "apart at {} {} {}\n", text_of(path)?, one, two)?;
+            lines.push_str(line.as_str())?;
+        }
+        Err(PlanFault::OutOfMemory) => return Err(Fail::new("memory was refused")),
+    }
+    Ok(lines)
+}
+
+/// A run: what it is given, and what its plan says.
+#[derive(Clone, Copy)]
+struct Case<'a> {
+    rules: &'a str,
+    prefer: Prefer,
+    loser: Loser,
+    check: bool,
+    limit: u64,
+    /// In which times are compared, and Path2 keeps them.
+    window: Window,
+    bases: [&'a [Row<'a>]; 2],
+    now: [&'a [Row<'a>]; 2],
+    told: &'a str,
+}
+
+/// What the plan of a case says.
+fn planned(alloc: Global, case: &Case<'_>) -> Result<String, Fail> {
+    let rules = match Rules::read(alloc, case.rules.as_bytes()) {
+        Ok(rules) => rules,
+        Err(_) => return Err(Fail::new("the rules aren't read")),
+    };
+    let view = view(alloc, &rules, &case.bases, &case.now)?;
+    let conflict = conflict_rule(alloc, case.prefer, case.loser)?;
+    let compare = Compare {
+        size: true,
+        time: true,
+        hash: false,
+        window: case.window,
+    };
+    let limits = Limits {
+        listing: case.limit,
+        ..Limits::REAL
+    };
+    let made = plan(
+        alloc,
+        &conflict,
+        &compare,
+        case.check,
+        &rules,
+        &view,
+        1,
+        &limits,
+        Window::Ns1,
+        case.window,
+    );
+    told(alloc, &made)
+}
+
+const PLAIN: u64 = 2_147_483_648;
+
+/// A case without rules, in which nobody wins and both sides have the same base.
+fn plain<'a>(base: &'a [Row<'a>], one: &'a [Row<'a>], two: &'a [Row<'a>], told: &'a str) -> Case<'a> {
+    Case {
+        rules: "",
+        prefer: Prefer::Nobody,
+        loser: Loser::Num,
+        check: true,
+        limit: PLAIN,
+        window: Window::Ns1,
+        bases: [base, base],
+        now: [one, two],
+        told,
+    }
+}
+
+const BASE: &[Row<'static>] = &[("a.txt", 1, 10), ("k.txt", 6, 10)];
+
+const TWO_AT_9: &[Row<'static>] = &[("f", 2, 90), ("k", 1, 10)];
+
+#[test]
+fn plans_are_those_of_the_rows(rt: HostRuntime) -> Result<(), Fail> {
+    let cases = [
+        // both sides changed f to the same
+        plain(
+            &[("f", 1, 10), ("k", 1, 10)],
+            TWO_AT_9,
+            TWO_AT_9,
+            "1: f 2 9000000000\n1: k 1 1000000000\n2: f 2 9000000000\n2: k 1 1000000000\n",
+        ),
+        Case {
+            limit: 27,
+            ..plain(&[("f", 1, 10), ("k", 1, 10)], TWO_AT_9, TWO_AT_9, "listing 1 has 156\n")
+        },
+        Case {
+            limit: 156,
+            ..plain(
+                &[("f", 1, 10), ("k", 1, 10)],
+                TWO_AT_9,
+                TWO_AT_9,
+                "1: f 2 9000000000\n1: k 1 1000000000\n2: f 2 9000000000\n2: k 1 1000000000\n",
+            )
+        },
+        // a conflict without a winner
+        plain(
+            BASE,
+            &[("a.txt", 2, 50), ("k.txt", 6, 10)],
+            &[("a.txt", 3, 60), ("k.txt", 6, 10)],
+            "rename 1 a.txt a.txt.conflict1 2\ncopy 1 a.txt.conflict1 2\nrename 2 a.txt a.txt.conflict2 3\ncopy 2 a.txt.conflict2 3\n1: a.txt.conflict1 2 5000000000\n1: a.txt.conflict2 3 6000000000\n1: k.txt 6 1000000000\n2: a.txt.conflict1 2 5000000000\n2: a.txt.conflict2 3 6000000000\n2: k.txt 6 1000000000\n",
+        ),
+        // the newer wins, and losers are deleted
+        Case {
+            prefer: Prefer::Newer,
+            loser: Loser::Delete,
+            ..plain(
+                BASE,
+                &[("a.txt", 2, 50), ("k.txt", 6, 10)],
+                &[("a.txt", 3, 60), ("k.txt", 6, 10)],
+                "copy 2 a.txt 3\n1: a.txt 3 6000000000\n1: k.txt 6 1000000000\n2: a.txt 3 6000000000\n2: k.txt 6 1000000000\n",
+            )
+        },
+        // deletes come first, and the loser is renamed before the winner is copied
+        Case {
+            prefer: Prefer::Newer,
+            ..plain(
+                BASE,
+                &[("a.txt", 2, 50), ("k.txt", 6, 10)],
+                &[("a.txt", 3, 60)],
+                "delete 1 k.txt 6\nrename 1 a.txt a.txt.conflict1 2\ncopy 1 a.txt.conflict1 2\ncopy 2 a.txt 3\n1: a.txt 3 6000000000\n1: a.txt.conflict1 2 5000000000\n2: a.txt 3 6000000000\n2: a.txt.conflict1 2 5000000000\n",
+            )
+        },
+        // the given names don't pass
+        Case {
+            rules: "+ *.txt\n- *\n",
+            ..plain(
+                BASE,
+                &[("a.txt", 2, 50), ("k.txt", 6, 10)],
+                &[("a.txt", 3, 60), ("k.txt", 6, 10)],
+                "rename 1 a.txt a.txt.conflict1 2\ncopy 1 a.txt.conflict1 2\nrename 2 a.txt a.txt.conflict2 3\ncopy 2 a.txt.conflict2 3\n1: k.txt 6 1000000000\n2: k.txt 6 1000000000\n",
+            )
+        },
+        // Path2 keeps whole windows of two seconds
+        Case {
+            window: Window::S2,
+            ..plain(
+                &[("k", 1, 20)],
+                &[("f", 1, 57), ("k", 1, 20)],
+                &[("k", 1, 20)],
+                "copy 1 f 1\n1: f 1 5700000000\n1: k 1 2000000000\n2: f 1 4000000000\n2: k 1 2000000000\n",
+            )
+        },
+        // base listings that differ
+        Case {
+            bases: [&[("f", 1, 10), ("k", 1, 10)], &[("f", 2, 10), ("k", 1, 10)]],
+            ..plain(&[], &[("f", 1, 10), ("k", 1, 10)], &[("f", 2, 10), ("k", 1, 10)], "apart at f 1 2\n")
+        },
+        Case {
+            check: false,
+            bases: [&[("f", 1, 10), ("k", 1, 10)], &[("f", 2, 10), ("k", 1, 10)]],
+            ..plain(
+                &[],
+                &[("f", 1, 10), ("k", 1, 10)],
+                &[("f", 2, 10), ("k", 1, 10)],
+                "1: f 1 1000000000\n1: k 1 1000000000\n2: f 2 1000000000\n2: k 1 1000000000\n",
+            )
+        },
+    ];
+    for case in &cases {
+        assert_eq!(rt; planned(rt.alloc(), case)?.as_str(), case.told);
+    }
+    Ok(())
+}
+
+/// What the plan of a resync says.
+fn resync_planned(alloc: Global, mode: Prefer, one: &[Row<'_>], two: &[Row<'_>]) -> Result<String, Fail> {
+    let now1 = listing(alloc, one)?;
+    let now2 = listing(alloc, two)?;
+    let compare = Compare {
+        size: true,
+        time: true,
+        hash: false,
+        window: Window::Ns1,
+    };
+    let made = plan_resync(
+        alloc,
+        mode,
+        &compare,
+        &now1,
+        &now2,
+        1,
+        &Limits::REAL,
+        Window::Ns1,
+        Window::Ns1,
+    );
+    told(alloc, &made)
+}
+
+#[test]
+fn a_resync_copies_from_the_winner(rt: HostRuntime) -> Result<(), Fail> {
+    let none: &[Row<'_>] = &[];
+    assert_eq!(rt; resync_planned(rt.alloc(), Prefer::Path1, none, none)?.as_str(), "");
+    let one: &[Row<'_>] = &[("f", 1, 10), ("g", 1, 10)];
+    let two: &[Row<'_>] = &[("f", 2, 10), ("h", 3, 10)];
+    assert_eq!(rt;
+        resync_planned(rt.alloc(), Prefer::Newer, one, two)?.as_str(),
+        "copy 1 f 1\ncopy 1 g 1\ncopy 2 h 3\n1: f 1 1000000000\n1: g 1 1000000000\n1: h 3 1000000000\n2: f 1 1000000000\n2: g 1 1000000000\n2: h 3 1000000000\n"
+    );
+    Ok(())
+}
