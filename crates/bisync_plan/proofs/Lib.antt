@@ -8,3 +8,4 @@ pub mod FirstApart
 pub mod FinalTexts
 pub mod PlannedRuns
 pub mod ListedParts
+pub mod FaultLaws

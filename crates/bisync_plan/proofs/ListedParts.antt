@@ -36,9 +36,9 @@ row_left rows i p e h k = (let go = left rows i p e h k in go) ∙ ap (λ n. (p,
 
 pub passing_left : (passes : PathBytes → Bool) (rows part : Rows) (i : ℕ) (p : PathBytes) (e : Entry) → slice_get (keys rows) i ≡ Some p → slice_get (values rows) i ≡ Some e → passes p ≡ true
     → part ++ passing passes (drop i rows) ≡ passing passes rows → (part ++ (p, e) ∷ []) ++ passing passes (drop (i + 1) rows) ≡ passing passes rows
-passing_left passes rows part i p e h k yes all =
+passing_left passes rows part i p e h k passed all =
     append_assoc part ((p, e) ∷ []) (passing passes (drop (i + 1) rows))
-    ∙ ap (λ b. part ++ cond b ((p, e) ∷ passing passes (drop (i + 1) rows)) (passing passes (drop (i + 1) rows))) (sym yes)
+    ∙ ap (λ b. part ++ cond b ((p, e) ∷ passing passes (drop (i + 1) rows)) (passing passes (drop (i + 1) rows))) (sym passed)
     ∙ ap (λ l. part ++ passing passes l) (sym (row_left rows i p e h k)) ∙ all
 
 pub passed_over : (passes : PathBytes → Bool) (rows part : Rows) (i : ℕ) (p : PathBytes) (e : Entry) → slice_get (keys rows) i ≡ Some p → slice_get (values rows) i ≡ Some e → passes p ≡ false

@@ -75,16 +75,23 @@ fn names(alloc: Global, listing: &Listing) -> Result<Names, Fail>
 }
 
 /// The view of these base listings and all that is on both sides now.
-fn view(alloc: Global, rules: &Rules, bases: &[&[Row<'_>]; 2], now: &[&[Row<'_>]; 2]) -> Result<View, Fail>
+fn view(
+    alloc: Global,
+    rules: &Rules,
+    base1: &[Row<'_>],
+    base2: &[Row<'_>],
+    one: &[Row<'_>],
+    two: &[Row<'_>],
+) -> Result<View, Fail>
     ensures narrowed { IfOk result (λ view. IsNarrowed (rules_pass rules.now) view) }
     ensures complete { IfOk result (λ view. IsComplete view) }
     ensures digests1 { IfOk result (λ view. (compare : Compare) → compare.hash ≡ false → HasDigests compare view.now1) }
     ensures digests2 { IfOk result (λ view. (compare : Compare) → compare.hash ≡ false → HasDigests compare view.now2) }
 {
-    let prior1 = listing(alloc, bases[0])?;
-    let prior2 = listing(alloc, bases[1])?;
-    let all1 = listing(alloc, now[0])?;
-    let all2 = listing(alloc, now[1])?;
+    let prior1 = listing(alloc, base1)?;
+    let prior2 = listing(alloc, base2)?;
+    let all1 = listing(alloc, one)?;
+    let all2 = listing(alloc, two)?;
     let base1 = part(alloc, rules, &prior1)?;
     let base2 = part(alloc, rules, &prior2)?;
     let now1 = part(alloc, rules, &all1)?;
@@ -228,164 +235,165 @@ fn told(alloc: Global, made: &Result<Plan, PlanFault>) -> Result<String, Fail> {
     Ok(lines)
 }
 
-/// A run: what it is given, and what its plan says.
+/// How a run is made.
 #[derive(Clone, Copy)]
-struct Case<'a> {
-    rules: &'a str,
+struct Settings {
     prefer: Prefer,
     loser: Loser,
     check: bool,
     limit: u64,
     /// In which times are compared, and Path2 keeps them.
     window: Window,
-    bases: [&'a [Row<'a>]; 2],
-    now: [&'a [Row<'a>]; 2],
-    told: &'a str,
 }
 
-/// What the plan of a case says.
-fn planned(alloc: Global, case: &Case<'_>) -> Result<String, Fail> {
-    let rules = match Rules::read(alloc, case.rules.as_bytes()) {
+const PLAIN: Settings = Settings {
+    prefer: Prefer::Nobody,
+    loser: Loser::Num,
+    check: true,
+    limit: 2_147_483_648,
+    window: Window::Ns1,
+};
+
+/// What the plan of a run says, with these rules, base listings and files.
+fn planned(
+    alloc: Global,
+    settings: Settings,
+    rules: &str,
+    base1: &[Row<'_>],
+    base2: &[Row<'_>],
+    one: &[Row<'_>],
+    two: &[Row<'_>],
+) -> Result<String, Fail> {
+    let rules = match Rules::read(alloc, rules.as_bytes()) {
         Ok(rules) => rules,
         Err(_) => return Err(Fail::new("the rules aren't read")),
     };
-    let view = view(alloc, &rules, &case.bases, &case.now)?;
-    let conflict = conflict_rule(alloc, case.prefer, case.loser)?;
+    let view = view(alloc, &rules, base1, base2, one, two)?;
+    let conflict = conflict_rule(alloc, settings.prefer, settings.loser)?;
     let compare = Compare {
         size: true,
         time: true,
         hash: false,
-        window: case.window,
+        window: settings.window,
     };
     let limits = Limits {
-        listing: case.limit,
+        listing: settings.limit,
         ..Limits::REAL
     };
     let made = plan(
         alloc,
         &conflict,
         &compare,
-        case.check,
+        settings.check,
         &rules,
         &view,
         1,
         &limits,
         Window::Ns1,
-        case.window,
+        settings.window,
     );
     told(alloc, &made)
 }
 
-const PLAIN: u64 = 2_147_483_648;
-
-/// A case without rules, in which nobody wins and both sides have the same base.
-fn plain<'a>(base: &'a [Row<'a>], one: &'a [Row<'a>], two: &'a [Row<'a>], told: &'a str) -> Case<'a> {
-    Case {
-        rules: "",
-        prefer: Prefer::Nobody,
-        loser: Loser::Num,
-        check: true,
-        limit: PLAIN,
-        window: Window::Ns1,
-        bases: [base, base],
-        now: [one, two],
-        told,
+#[test]
+fn listings_are_within_the_limit(rt: HostRuntime) -> Result<(), Fail> {
+    let base: &[Row<'_>] = &[("f", 1, 10), ("k", 1, 10)];
+    let now: &[Row<'_>] = &[("f", 2, 90), ("k", 1, 10)];
+    let kept = "1: f 2 9000000000\n1: k 1 1000000000\n2: f 2 9000000000\n2: k 1 1000000000\n";
+    for (limit, lines) in [
+        (2_147_483_648, kept),
+        (27, "listing 1 has 156\n"),
+        (155, "listing 1 has 156\n"),
+        (156, kept),
+    ] {
+        let settings = Settings { limit, ..PLAIN };
+        let made = planned(rt.alloc(), settings, "", base, base, now, now)?;
+        assert_eq!(rt; made.as_str(), lines);
     }
+    Ok(())
 }
 
-const BASE: &[Row<'static>] = &[("a.txt", 1, 10), ("k.txt", 6, 10)];
-
-const TWO_AT_9: &[Row<'static>] = &[("f", 2, 90), ("k", 1, 10)];
+#[test]
+fn conflicts_are_settled_in_order(rt: HostRuntime) -> Result<(), Fail> {
+    let base: &[Row<'_>] = &[("a.txt", 1, 10), ("k.txt", 6, 10)];
+    let one: &[Row<'_>] = &[("a.txt", 2, 50), ("k.txt", 6, 10)];
+    let two: &[Row<'_>] = &[("a.txt", 3, 60)];
+    let cases = [
+        (
+            Prefer::Nobody,
+            Loser::Num,
+            "",
+            "delete 1 k.txt 6\nrename 1 a.txt a.txt.conflict1 2\ncopy 1 a.txt.conflict1 2\nrename 2 a.txt a.txt.conflict2 3\ncopy 2 a.txt.conflict2 3\n1: a.txt.conflict1 2 5000000000\n1: a.txt.conflict2 3 6000000000\n2: a.txt.conflict1 2 5000000000\n2: a.txt.conflict2 3 6000000000\n",
+        ),
+        (
+            Prefer::Newer,
+            Loser::Num,
+            "",
+            "delete 1 k.txt 6\nrename 1 a.txt a.txt.conflict1 2\ncopy 1 a.txt.conflict1 2\ncopy 2 a.txt 3\n1: a.txt 3 6000000000\n1: a.txt.conflict1 2 5000000000\n2: a.txt 3 6000000000\n2: a.txt.conflict1 2 5000000000\n",
+        ),
+        (
+            Prefer::Newer,
+            Loser::Delete,
+            "",
+            "delete 1 k.txt 6\ncopy 2 a.txt 3\n1: a.txt 3 6000000000\n2: a.txt 3 6000000000\n",
+        ),
+        (
+            Prefer::Nobody,
+            Loser::Num,
+            "+ *.txt\n- *\n",
+            "delete 1 k.txt 6\nrename 1 a.txt a.txt.conflict1 2\ncopy 1 a.txt.conflict1 2\nrename 2 a.txt a.txt.conflict2 3\ncopy 2 a.txt.conflict2 3\n",
+        ),
+    ];
+    for (prefer, loser, rules, lines) in cases {
+        let settings = Settings {
+            prefer,
+            loser,
+            ..PLAIN
+        };
+        let made = planned(rt.alloc(), settings, rules, base, base, one, two)?;
+        assert_eq!(rt; made.as_str(), lines);
+    }
+    Ok(())
+}
 
 #[test]
-fn plans_are_those_of_the_rows(rt: HostRuntime) -> Result<(), Fail> {
-    let cases = [
-        // both sides changed f to the same
-        plain(
-            &[("f", 1, 10), ("k", 1, 10)],
-            TWO_AT_9,
-            TWO_AT_9,
-            "1: f 2 9000000000\n1: k 1 1000000000\n2: f 2 9000000000\n2: k 1 1000000000\n",
-        ),
-        Case {
-            limit: 27,
-            ..plain(&[("f", 1, 10), ("k", 1, 10)], TWO_AT_9, TWO_AT_9, "listing 1 has 156\n")
-        },
-        Case {
-            limit: 156,
-            ..plain(
-                &[("f", 1, 10), ("k", 1, 10)],
-                TWO_AT_9,
-                TWO_AT_9,
-                "1: f 2 9000000000\n1: k 1 1000000000\n2: f 2 9000000000\n2: k 1 1000000000\n",
-            )
-        },
-        // a conflict without a winner
-        plain(
-            BASE,
-            &[("a.txt", 2, 50), ("k.txt", 6, 10)],
-            &[("a.txt", 3, 60), ("k.txt", 6, 10)],
-            "rename 1 a.txt a.txt.conflict1 2\ncopy 1 a.txt.conflict1 2\nrename 2 a.txt a.txt.conflict2 3\ncopy 2 a.txt.conflict2 3\n1: a.txt.conflict1 2 5000000000\n1: a.txt.conflict2 3 6000000000\n1: k.txt 6 1000000000\n2: a.txt.conflict1 2 5000000000\n2: a.txt.conflict2 3 6000000000\n2: k.txt 6 1000000000\n",
-        ),
-        // the newer wins, and losers are deleted
-        Case {
-            prefer: Prefer::Newer,
-            loser: Loser::Delete,
-            ..plain(
-                BASE,
-                &[("a.txt", 2, 50), ("k.txt", 6, 10)],
-                &[("a.txt", 3, 60), ("k.txt", 6, 10)],
-                "copy 2 a.txt 3\n1: a.txt 3 6000000000\n1: k.txt 6 1000000000\n2: a.txt 3 6000000000\n2: k.txt 6 1000000000\n",
-            )
-        },
-        // deletes come first, and the loser is renamed before the winner is copied
-        Case {
-            prefer: Prefer::Newer,
-            ..plain(
-                BASE,
-                &[("a.txt", 2, 50), ("k.txt", 6, 10)],
-                &[("a.txt", 3, 60)],
-                "delete 1 k.txt 6\nrename 1 a.txt a.txt.conflict1 2\ncopy 1 a.txt.conflict1 2\ncopy 2 a.txt 3\n1: a.txt 3 6000000000\n1: a.txt.conflict1 2 5000000000\n2: a.txt 3 6000000000\n2: a.txt.conflict1 2 5000000000\n",
-            )
-        },
-        // the given names don't pass
-        Case {
-            rules: "+ *.txt\n- *\n",
-            ..plain(
-                BASE,
-                &[("a.txt", 2, 50), ("k.txt", 6, 10)],
-                &[("a.txt", 3, 60), ("k.txt", 6, 10)],
-                "rename 1 a.txt a.txt.conflict1 2\ncopy 1 a.txt.conflict1 2\nrename 2 a.txt a.txt.conflict2 3\ncopy 2 a.txt.conflict2 3\n1: k.txt 6 1000000000\n2: k.txt 6 1000000000\n",
-            )
-        },
-        // Path2 keeps whole windows of two seconds
-        Case {
-            window: Window::S2,
-            ..plain(
-                &[("k", 1, 20)],
-                &[("f", 1, 57), ("k", 1, 20)],
-                &[("k", 1, 20)],
-                "copy 1 f 1\n1: f 1 5700000000\n1: k 1 2000000000\n2: f 1 4000000000\n2: k 1 2000000000\n",
-            )
-        },
-        // base listings that differ
-        Case {
-            bases: [&[("f", 1, 10), ("k", 1, 10)], &[("f", 2, 10), ("k", 1, 10)]],
-            ..plain(&[], &[("f", 1, 10), ("k", 1, 10)], &[("f", 2, 10), ("k", 1, 10)], "apart at f 1 2\n")
-        },
-        Case {
-            check: false,
-            bases: [&[("f", 1, 10), ("k", 1, 10)], &[("f", 2, 10), ("k", 1, 10)]],
-            ..plain(
-                &[],
-                &[("f", 1, 10), ("k", 1, 10)],
-                &[("f", 2, 10), ("k", 1, 10)],
-                "1: f 1 1000000000\n1: k 1 1000000000\n2: f 2 1000000000\n2: k 1 1000000000\n",
-            )
-        },
-    ];
-    for case in &cases {
-        assert_eq!(rt; planned(rt.alloc(), case)?.as_str(), case.told);
+fn given_names_that_do_not_pass_are_not_listed(rt: HostRuntime) -> Result<(), Fail> {
+    let base: &[Row<'_>] = &[("a.txt", 1, 10), ("k.txt", 6, 10)];
+    let one: &[Row<'_>] = &[("a.txt", 2, 50), ("k.txt", 6, 10)];
+    let two: &[Row<'_>] = &[("a.txt", 3, 60), ("k.txt", 6, 10)];
+    let made = planned(rt.alloc(), PLAIN, "+ *.txt\n- *\n", base, base, one, two)?;
+    assert_eq!(rt;
+        made.as_str(),
+        "rename 1 a.txt a.txt.conflict1 2\ncopy 1 a.txt.conflict1 2\nrename 2 a.txt a.txt.conflict2 3\ncopy 2 a.txt.conflict2 3\n1: k.txt 6 1000000000\n2: k.txt 6 1000000000\n"
+    );
+    Ok(())
+}
+
+#[test]
+fn a_side_lists_the_time_that_it_keeps(rt: HostRuntime) -> Result<(), Fail> {
+    let base: &[Row<'_>] = &[("k", 1, 20)];
+    let one: &[Row<'_>] = &[("f", 1, 57), ("k", 1, 20)];
+    let settings = Settings {
+        window: Window::S2,
+        ..PLAIN
+    };
+    let made = planned(rt.alloc(), settings, "", base, base, one, base)?;
+    assert_eq!(rt;
+        made.as_str(),
+        "copy 1 f 1\n1: f 1 5700000000\n1: k 1 2000000000\n2: f 1 4000000000\n2: k 1 2000000000\n"
+    );
+    Ok(())
+}
+
+#[test]
+fn listings_that_differ_are_told_where_it_is_checked(rt: HostRuntime) -> Result<(), Fail> {
+    let one: &[Row<'_>] = &[("f", 1, 10), ("k", 1, 10)];
+    let two: &[Row<'_>] = &[("f", 2, 10), ("k", 1, 10)];
+    let kept = "1: f 1 1000000000\n1: k 1 1000000000\n2: f 2 1000000000\n2: k 1 1000000000\n";
+    for (check, lines) in [(true, "apart at f 1 2\n"), (false, kept)] {
+        let settings = Settings { check, ..PLAIN };
+        let made = planned(rt.alloc(), settings, "", one, two, one, two)?;
+        assert_eq!(rt; made.as_str(), lines);
     }
     Ok(())
 }
