@@ -71,12 +71,7 @@ pub(crate) fn resynced(
 }
 
 /// What the final listing of a side says of the name that a loser gets.
-pub(crate) fn carried_to(
-    view: &View,
-    given: &Given,
-    side: Side,
-    window: Window,
-) -> Option<Entry>
+pub(crate) fn carried_to(view: &View, given: &Given, side: Side, window: Window) -> Option<Entry>
     ensures { result ≡ carried_at view.now given.now side window }
 {
     let listed = match given.side {

@@ -7,6 +7,8 @@ mod cells;
 mod faults;
 mod finals;
 pub mod laws;
+#[cfg(test)]
+mod listed_views;
 mod merges;
 mod moves;
 mod named_rows;

@@ -66,10 +66,26 @@ fn planned(
 {
     let steps = steps(alloc, conflict, compare, view, given)?;
     let final1 = final_listing(
-        alloc, conflict, compare, rules, view, given, Side::One, window1, window2,
+        alloc,
+        conflict,
+        compare,
+        rules,
+        view,
+        given,
+        Side::One,
+        window1,
+        window2,
     )?;
     let final2 = final_listing(
-        alloc, conflict, compare, rules, view, given, Side::Two, window1, window2,
+        alloc,
+        conflict,
+        compare,
+        rules,
+        view,
+        given,
+        Side::Two,
+        window1,
+        window2,
     )?;
     Ok(Plan {
         steps,

@@ -44,12 +44,7 @@ fn first_apart<'a>(mut walk: Walk<'a>, compare: &Compare) -> Option<Cell<'a>>
 }
 
 /// Whether two listings are the same at every path.
-fn compared(
-    alloc: Global,
-    compare: &Compare,
-    one: &Listing,
-    two: &Listing,
-) -> Result<(), PlanFault>
+fn compared(alloc: Global, compare: &Compare, one: &Listing, two: &Listing) -> Result<(), PlanFault>
     ensures agree { OnOk result (Agree compare.now (look one.now) (look two.now)) }
     ensures fault { IfErr result (λ fault. IsApart compare.now (by_side (look one.now) (look two.now)) fault) }
 {
@@ -59,11 +54,7 @@ fn compared(
         None => Ok(()),
         Some(cell) => {
             let path = cell.path.copy(alloc)?;
-            Err(PlanFault::OutOfSync(
-                path,
-                cell.base1.copied(),
-                cell.base2.copied(),
-            ))
+            Err(PlanFault::OutOfSync(path, cell.base1.copied(), cell.base2.copied()))
         }
     }
 }

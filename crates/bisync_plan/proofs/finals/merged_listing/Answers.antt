@@ -20,5 +20,5 @@ push-requires c =
     let above = row_is_above c.loop-cell.listing c.loop-cell.named.entries _ _ _ _ _ c.requires.rising c.loop-cell.invariant is in
     record {
       above = subst (λ p. IsAboveLast (keys c.push_before.new.listing) p) (sym c.in_ok-copy.ensures)
-      (subst (λ l. IsAboveLast (keys l) c.in-Some.cell.path.now) (sym c.in_ok-push_before.ensures.listing) above);
+          (subst (λ l. IsAboveLast (keys l) c.in-Some.cell.path.now) (sym c.in_ok-push_before.ensures.listing) above);
     }

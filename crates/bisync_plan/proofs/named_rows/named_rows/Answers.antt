@@ -11,11 +11,11 @@ loop-name-preserved c = λ p.
     let passes = rules_pass c.args.rules.now in
     let split = first_left c.args.given.now c.loop-name.name-index c.name-item.result c.loop-name-test.true c.name-item.is in
     elim c.match-entry_of.branch [
-      in-Some+in_ok-copy+in_ok-insert w ↦
+      | in-Some+in_ok-copy+in_ok-insert w ↦
           ap (λ r. either (named_look passes c.args.view.now c.args.side c.args.window (drop (c.loop-name.name-index + 1) c.args.given.now) p) (look r.entries p)) w.rows-is
           ∙ name_added passes c.args.view.now c.args.side c.args.window c.args.given.now _ _ c.name-item.result _ _ w.in-Some.entry _
           split w.in-Some.ensures w.in_ok-copy.ensures w.in_ok-insert.ensures.updates.0 c.loop-name.invariant p
-    | in_default w ↦
+      | in_default w ↦
           ap (λ r. either (named_look passes c.args.view.now c.args.side c.args.window (drop (c.loop-name.name-index + 1) c.args.given.now) p) (look r.entries p)) w.rows-is
           ∙ name_passed_over passes c.args.view.now c.args.side c.args.window c.args.given.now _ _ c.name-item.result _
           split (sym w.in_default.is ∙ c.entry_of.ensures) c.loop-name.invariant p

@@ -27,8 +27,8 @@ planned-requires-clause-names c =
 pub tested-requires : goal.tested-requires
 tested-requires c = record {
   writable = subst (λ h. AreWritable h c.in_ok-made.made) (sym c.header-header.ensures)
-  (run_writable c.args.conflict.now c.args.compare.now (rules_pass c.args.rules.now) c.args.window1 c.args.window2 c.args.view.now (paths_of (listings_of c.args.view.now)) c.args.stamp c.in_ok-made.made
-  c.in_ok-made.ensures c.requires.stamp c.requires.compares c.requires.digests1 c.requires.digests2);
+      (run_writable c.args.conflict.now c.args.compare.now (rules_pass c.args.rules.now) c.args.window1 c.args.window2 c.args.view.now (paths_of (listings_of c.args.view.now)) c.args.stamp c.in_ok-made.made
+      c.in_ok-made.ensures c.requires.stamp c.requires.compares c.requires.digests1 c.requires.digests2);
   finals = own_finals _ c.in_ok-made.made c.in_ok-made.ensures.finals;
 }
 

@@ -12,8 +12,8 @@ tested-requires c =
     let made = c.in_ok-made.ensures (λ p. true) (all_pass c.args.now1.now) (all_pass c.args.now2.now) in
     record {
       writable = subst (λ h. AreWritable h c.in_ok-made.made) (sym c.header-header.ensures)
-      (resync_writable c.args.mode c.args.compare.now (λ p. true) c.args.window1 c.args.window2 c.args.now1.now c.args.now2.now (paths_of (listings [] [] c.args.now1.now c.args.now2.now)) c.args.stamp c.in_ok-made.made
-      made c.requires.stamp c.requires.compares c.requires.digests1 c.requires.digests2);
+          (resync_writable c.args.mode c.args.compare.now (λ p. true) c.args.window1 c.args.window2 c.args.now1.now c.args.now2.now (paths_of (listings [] [] c.args.now1.now c.args.now2.now)) c.args.stamp c.in_ok-made.made
+          made c.requires.stamp c.requires.compares c.requires.digests1 c.requires.digests2);
       finals = own_finals _ c.in_ok-made.made made.finals;
     }
 

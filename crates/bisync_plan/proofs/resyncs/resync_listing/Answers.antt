@@ -16,11 +16,11 @@ push-requires c =
     let row = resynced_row c.args.mode c.args.compare.now c.args.window c.args.side in
     let all : c.loop-cell.listing ++ ((c.in-Some.cell.path.now, c.in-Some-resynced.entry) ∷ flat_map row c.next.new.self) ≡ resynced_rows c.args.mode c.args.compare.now c.args.window c.args.side c.args.now1.now c.args.now2.now
     = ap (λ v. c.loop-cell.listing ++ (row_of c.in-Some.cell.path.now v ++ flat_map row c.next.new.self)) c.in-Some-resynced.ensures
-        ∙ ap (λ w. c.loop-cell.listing ++ flat_map row w) (sym c.in-Some.ensures.cell) ∙ c.loop-cell.invariant in
+    ∙ ap (λ w. c.loop-cell.listing ++ flat_map row w) (sym c.in-Some.ensures.cell) ∙ c.loop-cell.invariant in
     record {
       above = subst (λ p. IsAboveLast (keys c.loop-cell.listing) p) (sym c.in_ok-copy.ensures)
-      (above_from c.loop-cell.listing (flat_map row c.next.new.self) c.in-Some.cell.path.now c.in-Some-resynced.entry
-      (subst (λ rows. AreRising (keys rows)) (sym all) (rows_rising (listings [] [] c.args.now1.now c.args.now2.now) (resynced_in c.args.mode c.args.compare.now c.args.window c.args.side))));
+          (above_from c.loop-cell.listing (flat_map row c.next.new.self) c.in-Some.cell.path.now c.in-Some-resynced.entry
+          (subst (λ rows. AreRising (keys rows)) (sym all) (rows_rising (listings [] [] c.args.now1.now c.args.now2.now) (resynced_in c.args.mode c.args.compare.now c.args.window c.args.side))));
     }
 
 pub returns-clause-entries : goal.returns-clause-entries

@@ -1,7 +1,7 @@
 use Rattle.std.proofs.Common.{◌+◌, [], ◌∷◌, ◌++◌, drop, ◌∙◌, ap}
 use Rattle.bisync_tree.specs.Rows.{keys}
 use Rattle.bisync_plan.proofs.ListedParts.{names_left}
-use Rattle.bisync_plan.proofs.tests.names.Goals as goal
+use Rattle.bisync_plan.proofs.listed_views.names.Goals as goal
 
 pub loop-i-preserved : goal.loop-i-preserved
 loop-i-preserved c =

@@ -1,6 +1,6 @@
 use Rattle.bisync_filter.specs.Passing.{rules_pass}
 use Rattle.bisync_plan.proofs.ListedParts.{part_listed, part_narrowed, part_complete, part_digests}
-use Rattle.bisync_plan.proofs.tests.view.Goals as goal
+use Rattle.bisync_plan.proofs.listed_views.view.Goals as goal
 
 pub returns-clause-narrowed : goal.returns-clause-narrowed
 returns-clause-narrowed c = record {
