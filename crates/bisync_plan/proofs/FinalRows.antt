@@ -1,9 +1,9 @@
 -- The kept rows with the named rows are the final listing.
-use Rattle.std.proofs.Common.{◌≡◌, Bool, true, false, cond, List, [], ◌∷◌, Option, Some, None, refl, sym, ◌∙◌, ap}
-use Rattle.std.specs.Prelude.{flat_map, is_some}
+use Rattle.std.proofs.Common.{◌≡◌, Bool, true, false, cond, List, [], Option, Some, None, refl, sym, ◌∙◌, ap}
+use Rattle.std.specs.Prelude.{is_some}
 use Rattle.bisync_tree.specs.Same.{class}
 use Rattle.bisync_tree.specs.Rows.{PathBytes, Rows, keys, look, is_among, AreRising}
-use Rattle.bisync_tree.specs.Walk.{cell_at, cells, paths_of, listings_of}
+use Rattle.bisync_tree.specs.Walk.{cell_at, paths_of, listings_of}
 use Rattle.bisync_tree.specs.declared.sides.Side.{Side}
 use Rattle.bisync_tree.specs.declared.sides.Side.TheVariants.{One, Two}
 use Rattle.bisync_tree.specs.declared.windows.Window.{Window}
@@ -15,7 +15,6 @@ use Rattle.bisync_tree.specs.declared.classes.Rule.TheVariants.{Nothing, Copy as
 use Rattle.bisync_tree.specs.declared.steps.Given.{Given}
 use Rattle.bisync_tree.specs.declared.views.View.{View}
 use Rattle.bisync_model.specs.Trees.{by_side}
-use Rattle.bisync_model.specs.Known.{Known}
 use Rattle.bisync_model.specs.Table.{table, rule_at}
 use Rattle.bisync_model.specs.Conflict.{winner_at}
 use Rattle.bisync_model.specs.Names.{is_held, AreNames, loser_named}
@@ -23,7 +22,7 @@ use Rattle.bisync_model.specs.Finals.{entry_by_rule, entry_by_name, carried_entr
 use Rattle.bisync_model.specs.Views.{known_of, IsNarrowed, IsComplete}
 use Rattle.bisync_model.proofs.PlaceTests.{or_false_left, or_false_right}
 use Rattle.bisync_table.specs.Cells.{rule_in}
-use Rattle.bisync_plan.specs.CellRows.{settled_in, kept_by, kept_in, kept_row, kept_rows, either}
+use Rattle.bisync_plan.specs.CellRows.{settled_in, kept_by, kept_in, kept_rows, either}
 use Rattle.bisync_plan.specs.MergedRows.{merged}
 use Rattle.bisync_plan.specs.Plans.{AreRowsOf}
 use Rattle.bisync_plan.proofs.RowsOfCells.{IsAbsent, look_in_rows, rows_rising, none_from}

@@ -1,5 +1,5 @@
 -- The final listings may be written: their entries have a digest exactly where digests are compared.
-use Rattle.std.proofs.Common.{◌≡◌, ◌≢◌, ℕ, Bool, true, false, cond, List, [], ◌∷◌, Option, Some, None, refl, sym, ◌∙◌, ap, subst, IsTrue}
+use Rattle.std.proofs.Common.{◌≡◌, ◌≢◌, ℕ, Bool, true, false, cond, List, [], ◌∷◌, Option, Some, None, refl, sym, ◌∙◌, ap, IsTrue}
 use Rattle.std.specs.Prelude.{◌||◌, bytes_eq, is_some, option_map}
 use Rattle.std.specs.List.{AllByRecursion}
 use Rattle.bisync_tree.specs.Ranges.{ComparesSome}

@@ -7,7 +7,7 @@ use Rattle.bisync_tree.specs.Same.{same, Agree}
 use Rattle.bisync_tree.specs.Walk.{CellValue, cell_at, cells, listings, paths_of}
 use Rattle.bisync_tree.specs.declared.entries.Entry.{Entry}
 use Rattle.bisync_tree.specs.declared.entries.Compare.{Compare}
-use Rattle.bisync_tree.proofs.PathOrder.{order, path_is_itself, same_path}
+use Rattle.bisync_tree.proofs.PathOrder.{order, same_path}
 use Rattle.bisync_tree.proofs.RisingLemmas.{above_trans, absent_below}
 use Rattle.bisync_tree.proofs.WalkLemmas.{rising_paths}
 use Rattle.bisync_model.specs.Trees.{by_side}

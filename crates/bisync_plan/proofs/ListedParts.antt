@@ -1,13 +1,11 @@
 -- Views that tests make of rows.
-use Rattle.std.proofs.Common.{◌≡◌, ℕ, zero, suc, ◌+◌, Bool, true, false, cond, List, [], ◌∷◌, ◌++◌, drop, append_assoc, Option, Some, None, refl, sym, ◌∙◌, ap, subst, add-one}
-use Rattle.std.specs.Prelude.{bytes_eq, slice_get, is_some, filter}
+use Rattle.std.proofs.Common.{◌≡◌, ℕ, zero, suc, ◌+◌, Bool, true, false, cond, List, [], ◌∷◌, ◌++◌, drop, append_assoc, Option, Some, None, refl, sym, ◌∙◌, ap, add-one}
+use Rattle.std.specs.Prelude.{bytes_eq, slice_get, is_some}
 use Rattle.bisync_tree.specs.Rows.{PathBytes, Rows, keys, values, look, is_among, passing}
 use Rattle.bisync_tree.specs.declared.entries.Entry.{Entry}
 use Rattle.bisync_tree.specs.declared.entries.Compare.{Compare}
-use Rattle.bisync_tree.specs.declared.views.View.{View}
 use Rattle.bisync_tree.proofs.LookLemmas.{look_among}
 use Rattle.bisync_tree.proofs.PassingLemmas.{look-passing}
-use Rattle.bisync_model.specs.Views.{IsNarrowed, IsComplete}
 use Rattle.bisync_plan.specs.Conditions.{HasDigests}
 use Rattle.bisync_plan.specs.CellRows.{either}
 use Rattle.bisync_plan.proofs.MergedRows.{look_append}

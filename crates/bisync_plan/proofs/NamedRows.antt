@@ -1,7 +1,6 @@
 -- The rows of given names: a map holds them, and each name has its own.
 use Rattle.std.proofs.Common.{◌≡◌, ℕ, ◌+◌, ◌<◌, length, get_or, drop, add-one, drop-cons, Bool, true, false, cond, ◌||◌, List, [], ◌∷◌, Option, Some, None, refl, sym, ◌∙◌, ap, subst}
 use Rattle.std.specs.Prelude.{bytes_eq, is_some}
-use Rattle.std.specs.Ordering.{is_eq}
 use Rattle.std.specs.Cmp.Lexicographic.{nat_list_cmp_total}
 use Rattle.std.specs.Cmp.{eq_by_cmp_equiv}
 use Rattle.std.specs.List.{AllByRecursion}
@@ -19,7 +18,7 @@ use Rattle.bisync_tree.specs.declared.options.ConflictRule.{ConflictRule}
 use Rattle.bisync_tree.specs.declared.steps.Given.{Given}
 use Rattle.bisync_tree.specs.declared.views.View.{View}
 use Rattle.bisync_tree.specs.declared.sides.Side.TheVariants.{One, Two}
-use Rattle.bisync_tree.proofs.PathOrder.{order, path_is_itself, same_path}
+use Rattle.bisync_tree.proofs.PathOrder.{order, same_path}
 use Rattle.bisync_model.specs.Trees.{by_side}
 use Rattle.bisync_model.specs.Known.{Known}
 use Rattle.bisync_model.specs.Names.{is_held, AreGiven, loser_named}

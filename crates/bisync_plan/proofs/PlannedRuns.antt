@@ -1,7 +1,7 @@
 -- What is said of the final listings of a plan is said of the run's.
-use Rattle.std.proofs.Common.{◌≡◌, ℕ, Bool, true, false, List, IsTrue, refl, sym, ◌∙◌, ap, subst}
+use Rattle.std.proofs.Common.{◌≡◌, ℕ, Bool, true, false, List, IsTrue, refl, sym, subst}
 use Rattle.bisync_tree.specs.Ranges.{ComparesSome}
-use Rattle.bisync_tree.specs.Rows.{PathBytes, Rows, look}
+use Rattle.bisync_tree.specs.Rows.{PathBytes, Rows}
 use Rattle.bisync_tree.specs.declared.sides.Side.{Side}
 use Rattle.bisync_tree.specs.declared.sides.Side.TheVariants.{One, Two}
 use Rattle.bisync_tree.specs.declared.windows.Window.{Window}

@@ -1,8 +1,8 @@
 -- The copies and the rows that a walk makes in a resync are those of its plan.
-use Rattle.std.proofs.Common.{◌≡◌, Bool, true, false, cond, List, [], ◌∷◌, ◌++◌, map, Option, Some, None, refl, sym, ◌∙◌, ap, subst}
+use Rattle.std.proofs.Common.{◌≡◌, Bool, true, false, cond, List, [], ◌∷◌, ◌++◌, map, Option, Some, None, refl, ◌∙◌, ap}
 use Rattle.std.specs.Prelude.{flat_map}
 use Rattle.bisync_tree.specs.Rows.{PathBytes, Rows, look}
-use Rattle.bisync_tree.specs.Walk.{cell_at, cells, listings}
+use Rattle.bisync_tree.specs.Walk.{cell_at, listings}
 use Rattle.bisync_tree.specs.declared.sides.Side.{Side}
 use Rattle.bisync_tree.specs.declared.sides.Side.TheVariants.{One, Two}
 use Rattle.bisync_tree.specs.declared.windows.Window.{Window}
@@ -14,7 +14,7 @@ use Rattle.bisync_model.specs.Resync.{source, source_at, resync_steps, entry_fro
 use Rattle.bisync_model.specs.Views.{resync_known_of}
 use Rattle.bisync_plan.specs.Conditions.{HasPassing}
 use Rattle.bisync_plan.specs.CellSteps.{copied_from, copies_in, source_by, source_in}
-use Rattle.bisync_plan.specs.CellRows.{resynced_by, resynced_in, resynced_row, resynced_rows}
+use Rattle.bisync_plan.specs.CellRows.{resynced_by, resynced_in, resynced_rows}
 use Rattle.bisync_plan.specs.Plans.{AreRowsOf}
 use Rattle.bisync_plan.proofs.RowsOfCells.{IsAbsent, look_in_rows, rows_rising}
 use Rattle.bisync_plan.proofs.FinalRows.{none_where_not}

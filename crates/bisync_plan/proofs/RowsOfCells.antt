@@ -8,7 +8,6 @@ use Rattle.bisync_tree.specs.declared.entries.Entry.{Entry}
 use Rattle.bisync_tree.proofs.PathOrder.{order, path_is_itself, same_path}
 use Rattle.bisync_tree.proofs.RisingLemmas.{absent_below}
 use Rattle.bisync_tree.proofs.WalkLemmas.{rising_paths, covering}
-use Rattle.bisync_model.proofs.PlaceTests.{or_false_left, or_false_right}
 use Rattle.bisync_plan.specs.CellRows.{row_of}
 
 above_rest : (p q : PathBytes) (xs ys : Rows) (e : Entry) → AreAbove p (keys (xs ++ (q, e) ∷ ys)) → order p q ≡ Less

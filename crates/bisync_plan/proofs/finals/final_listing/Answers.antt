@@ -1,14 +1,13 @@
-use Rattle.std.proofs.Common.{◌≡◌, [], sym, ◌∙◌, ap, subst, cond, None}
+use Rattle.std.proofs.Common.{[], sym, ◌∙◌, ap, subst}
 use Rattle.std.proofs.lemmas.Result.{IfOk-weaker}
-use Rattle.bisync_tree.specs.Rows.{PathBytes, keys, look, AreRising}
-use Rattle.bisync_model.specs.Names.{loser_named}
+use Rattle.bisync_tree.specs.Rows.{PathBytes, keys, AreRising}
 use Rattle.bisync_model.specs.Finals.{final_entry}
 use Rattle.bisync_model.specs.Views.{known_of}
 use Rattle.bisync_filter.specs.Passing.{rules_pass}
 use Rattle.bisync_plan.specs.CellRows.{kept_rows, named_look}
 use Rattle.bisync_plan.specs.MergedRows.{merged}
 use Rattle.bisync_plan.specs.Plans.{AreRowsOf}
-use Rattle.bisync_plan.proofs.NamedRows.{named_by, named_are}
+use Rattle.bisync_plan.proofs.NamedRows.{named_are}
 use Rattle.bisync_plan.proofs.FinalRows.{merged_rises, final_rows}
 use Rattle.bisync_plan.proofs.finals.final_listing.Goals as goal
 

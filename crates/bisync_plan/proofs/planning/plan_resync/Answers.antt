@@ -1,4 +1,4 @@
-use Rattle.std.proofs.Common.{◌≡◌, [], true, false, refl, sym, ◌∙◌, ap, subst}
+use Rattle.std.proofs.Common.{[], true, false, sym, subst}
 use Rattle.std.proofs.lemmas.Result.{IfOk-weaker, IfErr-weaker}
 use Rattle.bisync_tree.specs.Walk.{paths_of, listings}
 use Rattle.bisync_model.specs.Views.{resync_known_of}

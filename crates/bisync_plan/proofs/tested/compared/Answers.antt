@@ -1,4 +1,4 @@
-use Rattle.std.proofs.Common.{◌≡◌, None, Some, sym, ◌∙◌, ap}
+use Rattle.std.proofs.Common.{sym, ◌∙◌, ap}
 use Rattle.bisync_tree.specs.Walk.{seen, cells, listings}
 use Rattle.bisync_plan.specs.CellRows.{first_apart}
 use Rattle.bisync_plan.proofs.FirstApart.{agree_from, apart_from}
