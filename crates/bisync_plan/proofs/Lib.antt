@@ -1,0 +1,11 @@
+pub mod RowsOfCells
+pub mod MergedRows
+pub mod StepsOfCells
+pub mod NamedRows
+pub mod FinalRows
+pub mod ResyncRows
+pub mod FirstApart
+pub mod FinalTexts
+pub mod PlannedRuns
+pub mod ListedParts
+pub mod FaultLaws

@@ -1,0 +1,5 @@
+use Rattle.bisync_plan.proofs.FaultLaws.{no_fault}
+use Rattle.bisync_plan.proofs.laws.a_plan_has_no_fault.Goals as goal
+
+pub returns : goal.returns
+returns c = no_fault

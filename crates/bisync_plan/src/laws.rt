@@ -1,0 +1,52 @@
+//! Laws of plans, and of why there is none. The functions do nothing.
+
+ghost use Rattle.std.specs.Prelude.{◌≡◌, ◌≢◌, ◌≤◌, ℕ, List, Bool, IsTrue, length};
+ghost use Rattle.bisync_tree.specs.Rows.{PathBytes, look};
+ghost use Rattle.bisync_tree.specs.Same.{Agree};
+ghost use Rattle.bisync_model.specs.Known.{Known};
+ghost use Rattle.bisync_listing.specs.Spelling.{listing_text};
+ghost use Rattle.bisync_plan.specs.Plans.{IsPlanOf, IsResyncOf};
+ghost use Rattle.bisync_plan.specs.Faults.{most, IsFaultOf, IsResyncFault};
+
+use crate::{Plan, PlanFault};
+use bisync_listing::Header;
+
+/// A run has one plan: its steps and both final listings are determined.
+pub fn plans_are_determined()
+    ensures steps { (known : Known) (paths : List PathBytes) (made other : Plan) →
+        IsPlanOf known paths made → IsPlanOf known paths other → made.steps.items ≡ other.steps.items }
+    ensures final1 { (known : Known) (paths : List PathBytes) (made other : Plan) →
+        IsPlanOf known paths made → IsPlanOf known paths other → made.final1 ≡ other.final1 }
+    ensures final2 { (known : Known) (paths : List PathBytes) (made other : Plan) →
+        IsPlanOf known paths made → IsPlanOf known paths other → made.final2 ≡ other.final2 }
+{}
+
+/// Besides want of memory a run has at most one fault: which one comes is determined.
+pub fn faults_are_determined()
+    ensures { (known : Known) (paths : List PathBytes) (header : Header) (limit : ℕ) (check : Bool)
+        (fault other : PlanFault) →
+        IsFaultOf known paths header limit check fault → IsFaultOf known paths header limit check other →
+        fault ≢ PlanFault.OutOfMemory → other ≢ PlanFault.OutOfMemory → fault ≡ other }
+{}
+
+/// Where a plan is given, its run has no fault besides want of memory.
+pub fn a_plan_has_no_fault()
+    ensures { (known : Known) (paths : List PathBytes) (header : Header) (limit : ℕ) (check : Bool) (made : Plan) →
+        IsPlanOf known paths made →
+        length (listing_text header made.final1) ≤ most limit →
+        length (listing_text header made.final2) ≤ most limit →
+        (IsTrue check → Agree known.policy.compare (look made.final1) (look made.final2)) →
+        (fault : PlanFault) → IsFaultOf known paths header limit check fault → fault ≡ PlanFault.OutOfMemory }
+{}
+
+/// The same of a resync.
+pub fn resync_faults_are_determined()
+    ensures plans { (known : Known) (paths : List PathBytes) (header : Header) (limit : ℕ) (made : Plan) →
+        IsResyncOf known paths made →
+        length (listing_text header made.final1) ≤ most limit →
+        length (listing_text header made.final2) ≤ most limit →
+        (fault : PlanFault) → IsResyncFault known header limit fault → fault ≡ PlanFault.OutOfMemory }
+    ensures faults { (known : Known) (header : Header) (limit : ℕ) (fault other : PlanFault) →
+        IsResyncFault known header limit fault → IsResyncFault known header limit other →
+        fault ≢ PlanFault.OutOfMemory → other ≢ PlanFault.OutOfMemory → fault ≡ other }
+{}
