@@ -31,8 +31,9 @@ pub fn loses(conflict: &ConflictRule, compare: &Compare, cell: &Cell<'_>, side: 
     }
 }
 
-/// Whether a side's file gets a name in a conflict with this winner.
-fn gets_name(loser: Loser, winner: Option<Side>, side: Side) -> bool
+/// Whether a side's file gets a name in a conflict with this winner: both get one where nobody wins,
+/// and else the winner's opposite, unless losers are deleted. Takes no memory.
+pub fn gets_name(loser: Loser, winner: Option<Side>, side: Side) -> bool
     ensures { result ≡ gets_name_by loser winner side }
 {
     match (loser, winner) {

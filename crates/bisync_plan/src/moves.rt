@@ -3,16 +3,16 @@
 ghost use Rattle.std.specs.Prelude.{◌≡◌, ◌++◌, OnOk, IfOk, option_copied};
 ghost use Rattle.bisync_tree.specs.Walk.{seen};
 ghost use Rattle.bisync_table.specs.Cells.{rule_in};
-ghost use Rattle.bisync_model.specs.Conflict.{gets_name as has_name};
 ghost use Rattle.bisync_model.specs.Plan.{copied, deleted, moved};
 ghost use Rattle.bisync_plan.specs.CellSteps.{deletes_in, copied_from, head_name, rest_names, lost_name, lost_rest};
 ghost use Rattle.bisync_plan.specs.CellSteps.{both_rest, settling, moves_by, rest_by};
 
 use crate::cells::now;
+use bisync_conflict::losers::gets_name;
 use bisync_conflict::winners::winner_of_cell;
 use bisync_table::table::rule_of_cell;
 use bisync_text::{OutOfMemory, Path};
-use bisync_tree::{Cell, Compare, ConflictRule, Entry, Given, Loser, Rule, Side, Step};
+use bisync_tree::{Cell, Compare, ConflictRule, Entry, Given, Rule, Side, Step};
 use std::alloc::Global;
 
 /// Adds a copy from this side, where the file is there.
@@ -122,17 +122,6 @@ fn take_name<'a>(names: &'a [Given], path: &Path, side: Side) -> (Option<&'a Pat
             (Some(&given.name), rest)
         }
         _ => (None, names),
-    }
-}
-
-/// Whether a side's file gets a name in a conflict with this winner.
-fn gets_name(loser: Loser, winner: Option<Side>, side: Side) -> bool
-    ensures { result ≡ has_name loser winner side }
-{
-    match (winner, loser) {
-        (None, _) => true,
-        (Some(_), Loser::Delete) => false,
-        (Some(winner), Loser::Num | Loser::Pathname) => side == winner.other(),
     }
 }
 

@@ -27,7 +27,10 @@ pub fn time<R: AllocGlobal + Print + Eprint + Clock>(rt: &R, text: &[u8]) -> io:
         println!(rt; "no listing of version 2")?;
         return Ok(ExitCode::from(1));
     };
-    eprintln!(rt; "written in {} microseconds", start.elapsed(rt)?.as_micros())?;
+    eprintln!(rt;
+        "written in {} microseconds",
+        start.elapsed(rt)?.as_micros()
+    )?;
     println!(rt; "{} files, {bytes} bytes", listing.len())?;
     Ok(ExitCode::SUCCESS)
 }

@@ -11,6 +11,7 @@ use std::time::Instant;
 
 /// How many rules are tried on how many paths, of 50 bytes each.
 const RULES: u32 = 100;
+
 const PATHS: u32 = 100_000;
 
 /// Times the rules on all paths.
