@@ -35,18 +35,18 @@ fn compare(window: Window) -> Compare {
     }
 }
 
-/// A path with its size and its time in seconds.
+/// A path with its size and its time in tenths of a second.
 type Row<'a> = (&'a str, u64, i64);
 
 /// The listing of rows in byte order of their paths.
 fn listing(alloc: Global, rows: &[Row<'_>]) -> Result<Listing, Fail> {
     let mut listing = Listing::new(alloc);
-    for (text, size, seconds) in rows {
+    for (text, size, tenths) in rows {
         let path = Path::read(alloc, text.as_bytes())?;
         if !listing.may_push(&path) {
             return Err(Fail::new("the paths don't rise"));
         }
-        listing.push(path, entry(*size, seconds.wrapping_mul(SECOND)))?;
+        listing.push(path, entry(*size, tenths.wrapping_mul(SECOND / 10)))?;
     }
     Ok(listing)
 }
@@ -129,12 +129,13 @@ fn rule(
     })
 }
 
-/// The names of the losers of a view, a line for each: its path, its side, and its name.
-fn told(alloc: Global, view: &View, rule: &ConflictRule) -> Result<Vec<u8>, Fail>
+/// The names of the losers of a view by this rule, where times are compared in this window: a line for
+/// each, with its path, its side, and its name.
+fn told(alloc: Global, view: &View, rule: &ConflictRule, window: Window) -> Result<Vec<u8>, Fail>
     requires { HasSuffixes rule.now }
 {
     let mut lines = Vec::new(alloc);
-    let Ok(names) = give_names(alloc, rule, &compare(Window::S2), view) else {
+    let Ok(names) = give_names(alloc, rule, &compare(window), view) else {
         return Err(Fail::new("there are no names"));
     };
     for given in &names {
@@ -182,8 +183,8 @@ fn each_loser_gets_its_name(rt: HostRuntime) -> Result<(), Fail> {
     let alloc = rt.alloc();
     let base = [("a.txt", 1, 1), ("k", 1, 1)];
     // both times are in one window of 2 s
-    let one = [("a.txt", 2, 6), ("k", 1, 1)];
-    let two = [("a.txt", 3, 7), ("k", 1, 1)];
+    let one = [("a.txt", 2, 60), ("k", 1, 1)];
+    let two = [("a.txt", 3, 70), ("k", 1, 1)];
     let view = view(alloc, &base, &one, &two)?;
     let both = "a.txt 1 a.txt.conflict1\na.txt 2 a.txt.conflict2\n";
     let numbers = "a.txt 1 a.txt.a1\na.txt 2 a.txt.b1\n";
@@ -207,8 +208,118 @@ fn each_loser_gets_its_name(rt: HostRuntime) -> Result<(), Fail> {
     ];
     for (prefer, loser, suffix1, suffix2, expected) in cases {
         let rule = rule(alloc, prefer, loser, (suffix1, suffix2))?;
-        assert_eq!(rt; told(alloc, &view, &rule)?.as_slice(), expected.as_bytes());
+        assert_eq!(rt;
+            told(alloc, &view, &rule, Window::S2)?.as_slice(),
+            expected.as_bytes()
+        );
     }
+    Ok(())
+}
+
+/// A run: how conflicts are settled, in which window times are compared, what both bases have and what
+/// Path1 and Path2 have now, and the names.
+#[derive(Clone, Copy)]
+struct Example<'a> {
+    prefer: Prefer,
+    loser: Loser,
+    suffix: &'a str,
+    window: Window,
+    base: &'a [Row<'a>],
+    one: &'a [Row<'a>],
+    two: &'a [Row<'a>],
+    names: &'a str,
+}
+
+const PLAIN: Example<'static> = Example {
+    prefer: Prefer::Nobody,
+    loser: Loser::Num,
+    suffix: "conflict",
+    window: Window::Ns1,
+    base: &[("f", 1, 10), ("k", 1, 10)],
+    one: &[],
+    two: &[],
+    names: "",
+};
+
+/// Whether a run gives these names.
+fn gives(alloc: Global, example: &Example<'_>) -> Result<bool, Fail> {
+    let view = view(alloc, example.base, example.one, example.two)?;
+    let suffixes = (example.suffix, example.suffix);
+    let rule = rule(alloc, example.prefer, example.loser, suffixes)?;
+    let names = told(alloc, &view, &rule, example.window)?;
+    Ok(names.as_slice() == example.names.as_bytes())
+}
+
+#[test]
+fn runs_without_losers_give_no_names(rt: HostRuntime) -> Result<(), Fail> {
+    let same = Example {
+        one: &[("f", 2, 90), ("k", 1, 10)],
+        two: &[("f", 2, 90), ("k", 1, 10)],
+        ..PLAIN
+    };
+    assert!(rt; gives(rt.alloc(), &same)?);
+    let gone = Example {
+        one: &[("k", 1, 10)],
+        two: &[("f", 2, 90), ("k", 1, 10)],
+        ..PLAIN
+    };
+    assert!(rt; gives(rt.alloc(), &gone)?);
+    let deleted = Example {
+        one: &[("k", 1, 10)],
+        two: &[("f", 1, 10), ("k", 1, 10)],
+        ..PLAIN
+    };
+    assert!(rt; gives(rt.alloc(), &deleted)?);
+    let changed = Example {
+        one: &[("f", 2, 50), ("k", 1, 10)],
+        two: &[("f", 1, 10), ("k", 1, 10)],
+        ..PLAIN
+    };
+    assert!(rt; gives(rt.alloc(), &changed)?);
+    let emptied = Example {
+        one: &[("f", 1, 10), ("k", 1, 10)],
+        ..PLAIN
+    };
+    assert!(rt; gives(rt.alloc(), &emptied)?);
+    let in_one_window = Example {
+        window: Window::S1,
+        base: &[("f", 1, 100)],
+        one: &[("f", 1, 102)],
+        two: &[("f", 1, 109)],
+        ..PLAIN
+    };
+    assert!(rt; gives(rt.alloc(), &in_one_window)?);
+    Ok(())
+}
+
+#[test]
+fn runs_with_losers_give_these_names(rt: HostRuntime) -> Result<(), Fail> {
+    let marked = Example {
+        prefer: Prefer::Larger,
+        loser: Loser::Pathname,
+        suffix: "path",
+        base: &[("a", 1, 10), ("a.path1", 1, 10), ("k", 1, 10)],
+        one: &[("a", 2, 50), ("a.path1", 1, 10), ("k", 1, 10)],
+        two: &[("a", 3, 60), ("a.path1", 1, 10), ("k", 1, 10)],
+        names: "a 1 a.path1-2\n",
+        ..PLAIN
+    };
+    assert!(rt; gives(rt.alloc(), &marked)?);
+    let tied = Example {
+        prefer: Prefer::Newer,
+        window: Window::S1,
+        one: &[("f", 2, 102), ("k", 1, 10)],
+        two: &[("f", 3, 109), ("k", 1, 10)],
+        names: "f 1 f.conflict1\nf 2 f.conflict2\n",
+        ..PLAIN
+    };
+    assert!(rt; gives(rt.alloc(), &tied)?);
+    let newer = Example {
+        two: &[("f", 3, 111), ("k", 1, 10)],
+        names: "f 1 f.conflict1\n",
+        ..tied
+    };
+    assert!(rt; gives(rt.alloc(), &newer)?);
     Ok(())
 }
 
@@ -221,7 +332,7 @@ fn a_name_that_the_base_has_is_taken(rt: HostRuntime) -> Result<(), Fail> {
     let view = view(alloc, &base, &one, &two)?;
     let rule = rule(alloc, Prefer::Nobody, Loser::Num, ("conflict", "conflict"))?;
     let expected = b"a 1 a.conflict2\na 2 a.conflict3\n".as_slice();
-    assert_eq!(rt; told(alloc, &view, &rule)?.as_slice(), expected);
+    assert_eq!(rt; told(alloc, &view, &rule, Window::S2)?.as_slice(), expected);
     Ok(())
 }
 
@@ -234,7 +345,7 @@ fn a_name_that_a_tree_has_is_taken(rt: HostRuntime) -> Result<(), Fail> {
     let view = view(alloc, &base, &one, &two)?;
     let rule = rule(alloc, Prefer::Larger, Loser::Pathname, ("path", "path"))?;
     let expected = b"a 1 a.path1-2\nb 1 b.path1\n".as_slice();
-    assert_eq!(rt; told(alloc, &view, &rule)?.as_slice(), expected);
+    assert_eq!(rt; told(alloc, &view, &rule, Window::S2)?.as_slice(), expected);
     Ok(())
 }
 

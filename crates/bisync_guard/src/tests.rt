@@ -106,7 +106,7 @@ fn decided(alloc: Global, row: &Row<'_>) -> Result<String, Fail> {
 #[test]
 fn counts_what_is_gone_or_changed(rt: HostRuntime) -> Result<(), Fail> {
     let five = "f1 f2 f3 f4 f5";
-    let rows: [Row; 17] = [
+    let rows: [Row; 23] = [
         (HALF, five, "f1 f2", five, "TooManyDeletes One 3 5"),
         (HALF, five, five, "f1 f2", "TooManyDeletes Two 3 5"),
         (HALF, "f1 f2 f3 f4", "f1 f2", "f1 f2 f3 f4", "none"),
@@ -136,6 +136,12 @@ fn counts_what_is_gone_or_changed(rt: HostRuntime) -> Result<(), Fail> {
         ),
         (HALF, "f", "f", "", "EmptyCurrent Two"),
         (FORCED, "f", "", "", "EmptyCurrent One"),
+        (HALF, "f k", "f* k", "f* k", "none"),
+        (HALF, "a.txt k", "a.txt* k", "a.txt** k", "none"),
+        (HALF, "a a.path1 k", "a* a.path1 k", "a** a.path1 k", "none"),
+        (HALF, "a a.conflict1 k", "a* k", "a** k", "none"),
+        (HALF, "a.txt k.txt", "a.txt* k.txt", "a.txt** k.txt", "none"),
+        (HALF, "f", "f", "f", "none"),
     ];
     for row in rows.iter() {
         let found = decided(rt.alloc(), row)?;

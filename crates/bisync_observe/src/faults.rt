@@ -17,9 +17,8 @@ pub enum ObserveFault {
     TooMany(u64, u64),
     /// A passing path, what was listed of it and what was read. The listed entry has the listed
     /// size and time, and no digest. The entry read has another size, the number of bytes read, up
-    /// to the piece that went past the listed size, with the listed time and the MD5 digest of
-    /// these bytes. None is read where no file is there, or the bytes read are more than the
-    /// greatest `u64`.
+    /// to the piece that went past the listed size, with the listed time and no digest either. None
+    /// is read where no file is there, or the bytes read are more than the greatest `u64`.
     Moved(Path, Entry, Option<Entry>),
     /// Memory was refused.
     OutOfMemory,

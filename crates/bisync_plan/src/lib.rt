@@ -19,6 +19,8 @@ mod steps;
 mod tested;
 #[cfg(test)]
 mod tests;
+#[cfg(test)]
+mod told_plans;
 
 pub use faults::PlanFault;
 pub use plans::Plan;

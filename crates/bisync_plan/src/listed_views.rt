@@ -140,18 +140,19 @@ fn suffix(alloc: Global, text: &str) -> Result<Text, Fail>
     Ok(Text::from_bytes(alloc, text.as_bytes())?)
 }
 
-/// A rule with the suffix `conflict` on both sides.
+/// A rule with the same suffix on both sides.
 pub(crate) fn conflict_rule(
     alloc: Global,
     prefer: Prefer,
     loser: Loser,
+    text: &str,
 ) -> Result<ConflictRule, Fail>
     ensures { IfOk result (λ rule. HasSuffixes rule) }
 {
     Ok(ConflictRule {
         prefer,
         loser,
-        suffix1: suffix(alloc, "conflict")?,
-        suffix2: suffix(alloc, "conflict")?,
+        suffix1: suffix(alloc, text)?,
+        suffix2: suffix(alloc, text)?,
     })
 }

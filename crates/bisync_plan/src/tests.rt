@@ -2,131 +2,34 @@
 
 use crate::listed_views::{Row, conflict_rule, listing, view};
 use crate::planning::{plan, plan_resync};
-use crate::{Plan, PlanFault};
+use crate::told_plans::told;
 use bisync_filter::Rules;
-use bisync_text::Path;
-use bisync_tree::{Compare, Limits, Listing, Loser, Prefer, Side, Step, Window};
+use bisync_tree::{Compare, Limits, Loser, Prefer, Window};
 use std::alloc::Global;
 use std::test::Fail;
-
-/// A path as text.
-fn text_of(path: &Path) -> Result<&str, Fail> {
-    match std::str::from_utf8(path.as_bytes()) {
-        Ok(text) => Ok(text),
-        Err(_) => Err(Fail::new("a path isn't UTF-8")),
-    }
-}
-
-/// The number of a side.
-fn number(side: Side) -> u8 {
-    match side {
-        Side::One => 1,
-        Side::Two => 2,
-    }
-}
-
-/// Adds the line of a step.
-fn add_step(alloc: Global, lines: &mut String, step: &Step) -> Result<(), Fail> {
-    let line = match step {
-        Step::Copy { from, path, entry } => {
-            format!(in alloc;
-                "copy {} {} {}\n",
-                number(*from),
-                text_of(path)?,
-                entry.size
-            )?
-        }
-        Step::Rename {
-            side,
-            from,
-            to,
-            entry,
-        } => {
-            format!(in alloc;
-                "rename {} {} {} {}\n",
-                number(*side),
-                text_of(from)?,
-                text_of(to)?,
-                entry.size
-            )?
-        }
-        Step::Delete { side, path, entry } => {
-            format!(in alloc;
-                "delete {} {} {}\n",
-                number(*side),
-                text_of(path)?,
-                entry.size
-            )?
-        }
-    };
-    lines.push_str(line.as_str())?;
-    Ok(())
-}
-
-/// Adds a line for each row of a side's listing: the size and the time in nanoseconds.
-fn add_rows(alloc: Global, lines: &mut String, side: Side, listing: &Listing) -> Result<(), Fail> {
-    for i in 0..listing.len() {
-        let entry = listing.entry_at(i);
-        let path = text_of(listing.path_at(i))?;
-        let line = format!(in alloc;
-            "{}: {} {} {}\n",
-            number(side),
-            path,
-            entry.size,
-            entry.time
-        )?;
-        lines.push_str(line.as_str())?;
-    }
-    Ok(())
-}
-
-/// The plan or why there is none, in lines.
-fn told(alloc: Global, made: &Result<Plan, PlanFault>) -> Result<String, Fail> {
-    let mut lines = String::new(alloc);
-    match made {
-        Ok(plan) => {
-            for step in &plan.steps {
-                add_step(alloc, &mut lines, step)?;
-            }
-            add_rows(alloc, &mut lines, Side::One, &plan.final1)?;
-            add_rows(alloc, &mut lines, Side::Two, &plan.final2)?;
-        }
-        Err(PlanFault::TooLong(side, _)) => {
-            let line = format!(in alloc; "too long on {}\n", number(*side))?;
-            lines.push_str(line.as_str())?;
-        }
-        Err(PlanFault::ListingTooLong(side, size)) => {
-            let line = format!(in alloc; "listing {} has {}\n", number(*side), size)?;
-            lines.push_str(line.as_str())?;
-        }
-        Err(PlanFault::OutOfSync(path, one, two)) => {
-            let one = one.as_ref().map_or(0, |entry| entry.size);
-            let two = two.as_ref().map_or(0, |entry| entry.size);
-            let line = format!(in alloc; "apart at {} {} {}\n", text_of(path)?, one, two)?;
-            lines.push_str(line.as_str())?;
-        }
-        Err(PlanFault::OutOfMemory) => return Err(Fail::new("memory was refused")),
-    }
-    Ok(lines)
-}
 
 /// How a run is made.
 #[derive(Clone, Copy)]
 struct Settings {
     prefer: Prefer,
     loser: Loser,
+    suffix: &'static str,
     check: bool,
     limit: u64,
-    /// In which times are compared, and Path2 keeps them.
+    /// In which times are compared.
     window: Window,
+    /// Whether Path2 keeps times in that window, too, and not to the nanosecond.
+    is_coarse: bool,
 }
 
 const PLAIN: Settings = Settings {
     prefer: Prefer::Nobody,
     loser: Loser::Num,
+    suffix: "conflict",
     check: true,
     limit: 2_147_483_648,
     window: Window::Ns1,
+    is_coarse: false,
 };
 
 /// What the plan of a run says, with these rules, base listings and files.
@@ -144,7 +47,7 @@ fn planned<'a>(
         Err(_) => return Err(Fail::new("the rules aren't read")),
     };
     let view = view(alloc, &rules, base1, base2, one, two)?;
-    let conflict = conflict_rule(alloc, settings.prefer, settings.loser)?;
+    let conflict = conflict_rule(alloc, settings.prefer, settings.loser, settings.suffix)?;
     let compare = Compare {
         size: true,
         time: true,
@@ -154,6 +57,11 @@ fn planned<'a>(
     let limits = Limits {
         listing: settings.limit,
         ..Limits::REAL
+    };
+    let kept = if settings.is_coarse {
+        settings.window
+    } else {
+        Window::Ns1
     };
     let made = plan(
         alloc,
@@ -165,7 +73,7 @@ fn planned<'a>(
         1,
         &limits,
         Window::Ns1,
-        settings.window,
+        kept,
     );
     told(alloc, &made)
 }
@@ -250,6 +158,7 @@ fn a_side_lists_the_time_that_it_keeps(rt: HostRuntime) -> Result<(), Fail> {
     let one: &[Row<'_>] = &[("f", 1, 57), ("k", 1, 20)];
     let settings = Settings {
         window: Window::S2,
+        is_coarse: true,
         ..PLAIN
     };
     let made = planned(rt.alloc(), settings, "", base, base, one, base)?;
@@ -269,6 +178,120 @@ fn listings_that_differ_are_told_where_it_is_checked(rt: HostRuntime) -> Result<
         let settings = Settings { check, ..PLAIN };
         let made = planned(rt.alloc(), settings, "", one, two, one, two)?;
         assert_eq!(rt; made.as_str(), lines);
+    }
+    Ok(())
+}
+
+/// What the plan of a run says whose bases are equal and by whose rules every path passes.
+fn made<'a>(
+    alloc: Global,
+    settings: Settings,
+    base: &[Row<'a>],
+    one: &[Row<'a>],
+    two: &[Row<'a>],
+) -> Result<String, Fail> {
+    planned(alloc, settings, "", base, base, one, two)
+}
+
+#[test]
+fn files_are_copied_and_deleted(rt: HostRuntime) -> Result<(), Fail> {
+    let alloc = rt.alloc();
+    let base: &[Row<'_>] = &[("a", 1, 10), ("k", 1, 10)];
+    let changed: &[Row<'_>] = &[("a", 2, 90), ("k", 1, 10)];
+    let kept: &[Row<'_>] = &[("k", 1, 10)];
+    let all: &[Row<'_>] = &[("f1", 1, 10), ("f2", 1, 10), ("f3", 1, 10), ("f4", 1, 10)];
+    let half: &[Row<'_>] = &[("f3", 1, 10), ("f4", 1, 10)];
+    let alone: &[Row<'_>] = &[("f", 1, 10)];
+    let new: &[Row<'_>] = &[("f", 2, 50)];
+    let cases = [
+        (
+            base,
+            kept,
+            changed,
+            "copy 2 a 2\n1: a 2 9000000000\n1: k 1 1000000000\n2: a 2 9000000000\n2: k 1 1000000000\n",
+        ),
+        (
+            all,
+            half,
+            all,
+            "delete 2 f1 1\ndelete 2 f2 1\n1: f3 1 1000000000\n1: f4 1 1000000000\n2: f3 1 1000000000\n2: f4 1 1000000000\n",
+        ),
+        (
+            alone,
+            new,
+            alone,
+            "copy 1 f 2\n1: f 2 5000000000\n2: f 2 5000000000\n",
+        ),
+        (alone, alone, &[], "delete 1 f 1\n"),
+    ];
+    for (base, one, two, lines) in cases {
+        assert_eq!(rt; made(alloc, PLAIN, base, one, two)?.as_str(), lines);
+    }
+    Ok(())
+}
+
+#[test]
+fn losers_get_names_that_are_free(rt: HostRuntime) -> Result<(), Fail> {
+    let alloc = rt.alloc();
+    let marked = Settings {
+        prefer: Prefer::Larger,
+        loser: Loser::Pathname,
+        suffix: "path",
+        ..PLAIN
+    };
+    let base: &[Row<'_>] = &[("a", 1, 10), ("a.path1", 1, 10)];
+    let one: &[Row<'_>] = &[("a", 2, 50), ("a.path1", 1, 10)];
+    let two: &[Row<'_>] = &[("a", 3, 60), ("a.path1", 1, 10)];
+    assert_eq!(rt;
+        made(alloc, marked, base, one, two)?.as_str(),
+        "rename 1 a a.path1-2 2\ncopy 1 a.path1-2 2\ncopy 2 a 3\n1: a 3 6000000000\n1: a.path1 1 1000000000\n1: a.path1-2 2 5000000000\n2: a 3 6000000000\n2: a.path1 1 1000000000\n2: a.path1-2 2 5000000000\n"
+    );
+    let base: &[Row<'_>] = &[("a", 1, 10), ("a.conflict1", 1, 10)];
+    assert_eq!(rt;
+        made(alloc, PLAIN, base, &[("a", 2, 50)], &[("a", 3, 60)])?.as_str(),
+        "rename 1 a a.conflict2 2\ncopy 1 a.conflict2 2\nrename 2 a a.conflict3 3\ncopy 2 a.conflict3 3\n1: a.conflict2 2 5000000000\n1: a.conflict3 3 6000000000\n2: a.conflict2 2 5000000000\n2: a.conflict3 3 6000000000\n"
+    );
+    let letters = vec![in alloc; b'a'; 4096]?;
+    let long = std::str::from_utf8(letters.as_slice())?;
+    let told = made(
+        alloc,
+        PLAIN,
+        &[(long, 1, 10)],
+        &[(long, 2, 50)],
+        &[(long, 3, 60)],
+    )?;
+    assert_eq!(rt; told.as_str(), "too long on 1\n");
+    Ok(())
+}
+
+#[test]
+fn times_are_compared_in_windows(rt: HostRuntime) -> Result<(), Fail> {
+    let alloc = rt.alloc();
+    let seconds = Settings {
+        prefer: Prefer::Newer,
+        window: Window::S1,
+        ..PLAIN
+    };
+    let base: &[Row<'_>] = &[("f", 1, 100)];
+    let cases: [(Row<'_>, Row<'_>, &str); 3] = [
+        (
+            ("f", 2, 102),
+            ("f", 3, 109),
+            "rename 1 f f.conflict1 2\ncopy 1 f.conflict1 2\nrename 2 f f.conflict2 3\ncopy 2 f.conflict2 3\n1: f.conflict1 2 10200000000\n1: f.conflict2 3 10900000000\n2: f.conflict1 2 10200000000\n2: f.conflict2 3 10900000000\n",
+        ),
+        (
+            ("f", 2, 102),
+            ("f", 3, 111),
+            "rename 1 f f.conflict1 2\ncopy 1 f.conflict1 2\ncopy 2 f 3\n1: f 3 11100000000\n1: f.conflict1 2 10200000000\n2: f 3 11100000000\n2: f.conflict1 2 10200000000\n",
+        ),
+        (
+            ("f", 1, 102),
+            ("f", 1, 109),
+            "1: f 1 10200000000\n2: f 1 10900000000\n",
+        ),
+    ];
+    for (one, two, lines) in cases {
+        assert_eq!(rt; made(alloc, seconds, base, &[one], &[two])?.as_str(), lines);
     }
     Ok(())
 }

@@ -50,7 +50,8 @@ pub enum End {
     RemoteFault(Side),
     /// The first listed text that is no path.
     BadPath(Side, Text),
-    /// The remote has this many files, with this many bytes of names, and one is over its limit.
+    /// The remote has this many files, or folders where they are looked at, with this many bytes of
+    /// names, and one number is over its limit.
     TooMany(Side, u64, u64),
     /// The side lacks this check file, or neither side has one.
     CheckAccess(Side, Option<Path>),
@@ -69,7 +70,8 @@ pub enum End {
     /// The file isn't as it was listed. The entries are the listed one and what was read, which is
     /// None where no file was there or it had too many bytes to count.
     Moved(Side, Path, Entry, Option<Entry>),
-    /// The output failed: at the last line after a good end where `done`, and else before.
+    /// The output failed: after a good end where `done`, at the last line or the line on folders, and
+    /// else before.
     SinkFault {
         done: bool,
     },

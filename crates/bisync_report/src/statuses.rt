@@ -19,8 +19,8 @@ pub fn status(end: &End, resilient: bool) -> u8
     }
 }
 
-/// Whether the base falls after this end, in a run that holds the lock, without `--resilient` and
-/// `--dry-run`, and past the choice of folders.
+/// Whether this end asks for the fall of the base, in a run that holds the lock, without
+/// `--resilient` and `--dry-run`.
 pub fn falls(end: &End) -> bool
     ensures { result ≡ falls_of end.now }
 {

@@ -33,7 +33,7 @@ pub enum Taken {
 /// # Errors
 ///
 /// `Failed` only where a call of the device failed. The lock is then as before, or new, or, where none
-/// was there, partly written.
+/// was there, may hold any bytes that aren't synced.
 pub fn take_lock<W: Work>(work: &mut W, now: i64, max_lock: Option<i64>) -> Result<Taken, Failed>
     requires { IsLongEnough max_lock }
     ensures takes { IsTrue W.tells → IfOk result (Takes now (lock_text (expiry_of now max_lock)) (W.state work.old).folder (W.state work.new).folder) }

@@ -1,4 +1,4 @@
-//! The moves of a work folder, each by renames. At each point the folder has one base.
+//! The moves of a work folder, each by renames. At each point the folder has one base or none.
 
 ghost use Rattle.std.specs.Prelude.{◌≡◌, ◌<◌, ◌^◌, ℕ, IsTrue, OnOk, is_err};
 ghost use Rattle.bisync_work.specs.WorkCalls.{AreWorkCalls};
@@ -29,7 +29,8 @@ pub fn set_back<W: Work>(work: &mut W, pair: Pair) -> Result<(), Failed>
     Ok(())
 }
 
-/// Moves the new listings to `1.lst` and `2.lst`. The second rename alone changes the base.
+/// Moves the new listings to `1.lst` and `2.lst`. Where they are ready, the second rename alone changes
+/// the base.
 pub fn switch<W: Work>(work: &mut W) -> Result<(), Failed>
     ensures switches { IsTrue W.tells → Switches (W.state work.old).folder (W.state work.new).folder }
     ensures switched { IsTrue W.tells → (limit : ℕ) (next : Base) → limit < 2 ^ 64 → IsReady limit (W.state work.old).folder next → OnOk result (IsSwitched limit next (W.state work.old).folder (W.state work.new).folder) }

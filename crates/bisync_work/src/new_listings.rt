@@ -1,5 +1,6 @@
-ghost use Rattle.std.specs.Prelude.{◌≡◌, IsTrue, OnOk, is_err};
+ghost use Rattle.std.specs.Prelude.{◌≡◌, ◌≤◌, ℕ, length, IsTrue, OnOk, is_err};
 ghost use Rattle.bisync_listing.specs.Spelling.{listing_text};
+ghost use Rattle.bisync_listing.specs.ListingText.{IsListingText};
 ghost use Rattle.bisync_listing.specs.Writing.{MayBeWritten};
 ghost use Rattle.bisync_device.specs.WorkFolder.{Absent, Kept, with_held};
 ghost use Rattle.bisync_work.specs.WorkCalls.{AreWorkCalls};
@@ -20,6 +21,7 @@ fn write_synced<W: Work>(
 ) -> Result<(), Failed>
     requires { MayBeWritten header.now listing.now }
     ensures written { IsTrue W.tells → OnOk result ((W.state work.new).folder ≡ with_held name (Kept (listing_text header.now listing.now)) (W.state work.old).folder) }
+    ensures read_again { OnOk result ((limit : ℕ) → length (listing_text header.now listing.now) ≤ limit → IsListingText limit header.now listing.now (listing_text header.now listing.now)) }
     ensures others { IsTrue W.tells → with_held name Absent (W.state work.new).folder ≡ with_held name Absent (W.state work.old).folder }
     ensures calls { AreWorkCalls (is_err result) (W.state work.old) (W.state work.new) }
 {
@@ -37,7 +39,7 @@ fn write_synced<W: Work>(
 }
 
 /// Writes the texts of two listings under `1.lst-new` and `2.lst-new`, and syncs each. No other name
-/// is touched. It takes no memory.
+/// is touched. It takes no memory. Each text is read again under each limit that it does not pass.
 pub fn write_new<W: Work>(
     work: &mut W,
     header: &Header,
@@ -47,6 +49,8 @@ pub fn write_new<W: Work>(
     requires one { MayBeWritten header.now one.now }
     requires two { MayBeWritten header.now two.now }
     ensures written { IsTrue W.tells → OnOk result (AreWritten header.now one.now two.now (W.state work.new).folder) }
+    ensures read_again1 { OnOk result ((limit : ℕ) → length (listing_text header.now one.now) ≤ limit → IsListingText limit header.now one.now (listing_text header.now one.now)) }
+    ensures read_again2 { OnOk result ((limit : ℕ) → length (listing_text header.now two.now) ≤ limit → IsListingText limit header.now two.now (listing_text header.now two.now)) }
     ensures rest { IsTrue W.tells → but_new (W.state work.new).folder ≡ but_new (W.state work.old).folder }
     ensures calls { AreWorkCalls (is_err result) (W.state work.old) (W.state work.new) }
 {
