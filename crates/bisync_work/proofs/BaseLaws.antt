@@ -8,7 +8,7 @@ use Rattle.bisync_work.specs.declared.bases.Pair.{Pair}
 use Rattle.bisync_work.specs.declared.bases.Pair.TheVariants.{Current, Mixed, Old}
 use Rattle.bisync_work.specs.Base.{Base, ArePair, HasBaseIn, HasNoBase, IsBase}
 use Rattle.bisync_work.specs.Stamps.{HasStamp, LacksStamp, IsUsed, IsUnused, IsNewStamp}
-use Rattle.bisync_work.specs.BadNames.{IsGood, IsBad, IsFirstBad}
+use Rattle.bisync_work.specs.BadNames.{IsGood, IsBad, IsFirstBad, base_names}
 use Rattle.bisync_work.specs.Moves.{KeepsBase, SameListings}
 use Rattle.bisync_work.proofs.PairLaws.{one_listing, same_bytes}
 use Rattle.bisync_work.proofs.MarkLaws.{bad_no_listing}
@@ -116,6 +116,17 @@ same_base limit f g s (Some base) x = (x.0, same_in_pair limit f g s x.0 base x.
 same_unused : (limit : ℕ) (f g : WorkFolder) → SameListings f g → (n : ℕ) → IsUnused limit f n → IsUnused limit g n
 unfolding with_listings
 same_unused limit f g s n u = subst (λ (h : WorkFolder). IsUnused limit h n) (same_whole f g s) (record { one = u.one; two = u.two; one_old = u.one_old; two_old = u.two_old })
+
+pub same_stamp : (limit : ℕ) (f g : WorkFolder) → SameListings f g → (n : ℕ) → IsNewStamp limit f n → IsNewStamp limit g n
+unfolding with_listings
+same_stamp limit f g s n u =
+    let unused = u.unused in
+    subst (λ (h : WorkFolder). IsNewStamp limit h n) (same_whole f g s)
+    (record { low = u.low; unused = record { one = unused.one; two = unused.two; one_old = unused.one_old; two_old = unused.two_old }; least = u.least })
+
+pub same_bad : (limit : ℕ) (f g : WorkFolder) → SameListings f g → (bad : Option (WorkName × ℕ)) → IsFirstBad limit f base_names bad → IsFirstBad limit g base_names bad
+unfolding with_listings
+same_bad limit f g s bad x = subst (λ (h : WorkFolder). IsFirstBad limit h base_names bad) (same_whole f g s) x
 
 pub same_keeps : (limit : ℕ) (f g : WorkFolder) → SameListings f g → KeepsBase limit f g
 same_keeps limit f g s = record { base = same_base limit f g s; unused = same_unused limit f g s }

@@ -4,6 +4,7 @@ pub mod LockLaws
 pub mod LockTextLaws
 pub mod RulesFileLaws
 pub mod RenameLaws
+pub mod RenamesBegun
 pub mod PairLaws
 pub mod SetBackLaws
 pub mod SwitchLaws

@@ -1,5 +1,5 @@
 -- What is found in a work folder.
-use Rattle.std.specs.Prelude.{◌≡◌, ℕ, [], Option, Some, None, IfSome}
+use Rattle.std.specs.Prelude.{◌≡◌, ℕ, [], Option, Some, None, IfSome, ⊤}
 use Rattle.std.specs.List.{AllByRecursion}
 use Rattle.bisync_tree.specs.Rows.{Rows}
 use Rattle.bisync_tree.specs.declared.entries.Compare.{Compare}
@@ -34,3 +34,8 @@ pub record AreFoundFields (fields : Option Compare) (one two : Rows) : Type 0 wh
 -- two listings of one header, as a base
 abbrev pub base_of : Listings → Base
 base_of listings = record { header = listings.header; one = listings.one; two = listings.two }
+
+-- without a pair no listing and no fields are told
+abbrev pub IsEmptyUnpaired : Option Pair → Rows → Rows → Option Compare → Type 0
+IsEmptyUnpaired None one two fields = (one ≡ []) × (two ≡ []) × (fields ≡ None)
+IsEmptyUnpaired (Some pair) one two fields = ⊤

@@ -12,4 +12,5 @@ pub mod BadNames
 pub mod Standing
 pub mod Moves
 pub mod NewListings
+pub mod Renames
 pub mod Found

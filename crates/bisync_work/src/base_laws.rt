@@ -33,10 +33,12 @@ pub fn one_bad_name()
 {}
 
 /// A law: where the same stands under the four names of a base, the base is the same, in the same
-/// pair, and what is unused.
+/// pair, and so are the stamps that are unused, the new stamp and the first bad name.
 pub fn same_listings_same_base()
     ensures keeps { (limit : ℕ) (f g : WorkFolder) → SameListings f g → KeepsBase limit f g }
     ensures pair { (limit : ℕ) (f g : WorkFolder) → SameListings f g → (pair : Pair) (base : Base) → HasBaseIn limit f pair base → HasBaseIn limit g pair base }
+    ensures stamp { (limit : ℕ) (f g : WorkFolder) → SameListings f g → (n : ℕ) → IsNewStamp limit f n → IsNewStamp limit g n }
+    ensures bad { (limit : ℕ) (f g : WorkFolder) → SameListings f g → (bad : Option (WorkName × ℕ)) → IsFirstBad limit f base_names bad → IsFirstBad limit g base_names bad }
 {}
 
 /// A law: an image of a settled folder has the same base, in the same pair.

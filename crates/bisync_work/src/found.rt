@@ -3,7 +3,7 @@ ghost use Rattle.bisync_device.specs.WorkFolder.{Held, WorkFolder};
 ghost use Rattle.bisync_device.specs.Work.{KeepsFolder};
 ghost use Rattle.bisync_work.specs.WorkCalls.{AreWorkCalls, is_device_fault};
 ghost use Rattle.bisync_work.specs.Base.{ArePair, NoPair, HasBaseIn, HasNoBase};
-ghost use Rattle.bisync_work.specs.Found.{IsFound, AreFoundFields, base_of};
+ghost use Rattle.bisync_work.specs.Found.{IsFound, AreFoundFields, base_of, IsEmptyUnpaired};
 ghost use Rattle.bisync_work.specs.Standing.{IsStanding, IsListedWell, IsMark, AreMarks};
 ghost use Rattle.bisync_work.specs.declared.listing_reads.Standing.TheVariants.{Listed};
 
@@ -117,6 +117,7 @@ fn found_in(pair: Pair, listings: Listings, marks: &Marks) -> Found
     ensures found { (limit : ℕ) (f : WorkFolder) → limit < 2 ^ 64 → AreMarks limit f marks.now → HasBaseIn limit f pair (base_of listings) → IsFound limit f result }
     ensures stamp { (1 ≤ result.stamp) × (result.stamp ≤ 5) }
     ensures fields { AreFoundFields listings.header.fields listings.one listings.two → AreFoundFields result.fields result.one result.two }
+    ensures unpaired { IsEmptyUnpaired result.pair result.one result.two result.fields }
 {
     Found {
         pair: Some(pair),
@@ -132,6 +133,7 @@ fn found_none(alloc: Global, marks: &Marks) -> Found
     ensures found { (limit : ℕ) (f : WorkFolder) → limit < 2 ^ 64 → AreMarks limit f marks.now → HasNoBase limit f → IsFound limit f result }
     ensures stamp { (1 ≤ result.stamp) × (result.stamp ≤ 5) }
     ensures fields { AreFoundFields result.fields result.one result.two }
+    ensures unpaired { IsEmptyUnpaired result.pair result.one result.two result.fields }
 {
     Found {
         pair: None,
@@ -158,6 +160,7 @@ fn find_older<W: Work>(
         → IfOk result (IsFound limits.now.listing (W.state work.old).folder) }
     ensures stamp { IfOk result (λ found. (1 ≤ found.stamp) × (found.stamp ≤ 5)) }
     ensures fields { IfOk result (λ found. AreFoundFields found.fields found.one found.two) }
+    ensures unpaired { IfOk result (λ found. IsEmptyUnpaired found.pair found.one found.two found.fields) }
     ensures folder { KeepsFolder W.tells (W.state work.old) (W.state work.new) }
     ensures writing { (W.state work.new).writing ≡ (W.state work.old).writing }
     ensures calls { AreWorkCalls (is_device_fault result) (W.state work.old) (W.state work.new) }
@@ -193,6 +196,7 @@ pub fn find_base<W: Work>(alloc: Global, work: &mut W, limits: &Limits) -> Resul
     ensures found { IsTrue W.tells → IfOk result (IsFound limits.now.listing (W.state work.old).folder) }
     ensures stamp { IfOk result (λ found. (1 ≤ found.stamp) × (found.stamp ≤ 5)) }
     ensures fields { IfOk result (λ found. AreFoundFields found.fields found.one found.two) }
+    ensures unpaired { IfOk result (λ found. IsEmptyUnpaired found.pair found.one found.two found.fields) }
     ensures folder { KeepsFolder W.tells (W.state work.old) (W.state work.new) }
     ensures writing { (W.state work.new).writing ≡ (W.state work.old).writing }
     ensures calls { AreWorkCalls (is_device_fault result) (W.state work.old) (W.state work.new) }
