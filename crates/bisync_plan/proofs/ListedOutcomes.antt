@@ -11,7 +11,7 @@ use Rattle.bisync_tree.specs.declared.entries.Compare.{Compare}
 use Rattle.bisync_tree.specs.declared.steps.Given.{Given}
 use Rattle.bisync_tree.proofs.ListingLemmas.{listing_rising, look-listing_of}
 use Rattle.bisync_tree.proofs.LookLemmas.{same_rows}
-use Rattle.bisync_model.specs.Trees.{Trees, by_side}
+use Rattle.bisync_model.specs.Trees.{Trees, SameTrees, trees_of, by_side}
 use Rattle.bisync_model.specs.Policy.{Policy}
 use Rattle.bisync_model.specs.Entries.{Entries, entries_of, SameWherePassing}
 use Rattle.bisync_model.specs.Known.{Known}
@@ -19,7 +19,8 @@ use Rattle.bisync_model.specs.Names.{loser_named}
 use Rattle.bisync_model.specs.Finals.{entry_by_name, final_entry}
 use Rattle.bisync_model.specs.Resync.{source_at, entry_from, resync_entry}
 use Rattle.bisync_plan.specs.Conditions.{KeepsTimes}
-use Rattle.bisync_plan.specs.Plans.{AreRowsOf}
+use Rattle.bisync_plan.specs.Plans.{AreRowsOf, HasFinals, ListsTrees}
+use Rattle.bisync_plan.specs.declared.plans.Plan.{Plan}
 
 pub rows_listing : (policy : Policy) (entries : Entries) (end : Trees) → SameWherePassing policy entries (entries_of policy.compare end)
     → ((side : Side) (p : PathBytes) → policy.passes p ≡ false → entries side p ≡ None)
@@ -44,3 +45,12 @@ pub kept : (compare : Compare) (window1 window2 : Window) → KeepsTimes compare
     → (side : Side) → window_ns (by_side window1 window2 side) ≤ window_ns compare.window
 kept compare window1 window2 keeps One = keeps.one
 kept compare window1 window2 keeps Two = keeps.two
+
+-- of a plan, whose listings have the entries of where its steps lead
+pub plan_lists : (policy : Policy) (entries : Entries) (end left : Trees) (made : Plan) (one two : Tree) → SameWherePassing policy entries (entries_of policy.compare end)
+    → ((side : Side) (p : PathBytes) → policy.passes p ≡ false → entries side p ≡ None)
+    → HasFinals entries made → SameTrees (trees_of one two) left → SameTrees left end → ListsTrees policy one two made
+plan_lists policy entries end left made one two listed filtered finals there leads = record {
+  one_is = rows_listing policy entries end listed filtered One made.final1 one finals.one (λ p. there One p ∙ leads One p);
+  two_is = rows_listing policy entries end listed filtered Two made.final2 two finals.two (λ p. there Two p ∙ leads Two p);
+}

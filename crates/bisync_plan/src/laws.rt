@@ -4,16 +4,18 @@ ghost use Rattle.std.specs.Prelude.{◌≡◌, ◌≢◌, ◌≤◌, ℕ, List, 
 ghost use Rattle.bisync_tree.specs.Rows.{PathBytes, Rows, look, listing_of};
 ghost use Rattle.bisync_tree.specs.Same.{Agree};
 ghost use Rattle.bisync_tree.specs.Tree.{Tree, file_at};
+ghost use Rattle.bisync_model.specs.Trees.{Trees, SameTrees, trees_of};
 ghost use Rattle.bisync_model.specs.Policy.{ComparesKeptTimes};
-ghost use Rattle.bisync_model.specs.Known.{Known};
+ghost use Rattle.bisync_model.specs.Known.{Known, AreListed};
 ghost use Rattle.bisync_model.specs.Outcome.{outcome};
 ghost use Rattle.bisync_model.specs.Finals.{final_entry};
 ghost use Rattle.bisync_model.specs.Resync.{resync_outcome, resync_entry};
-ghost use Rattle.bisync_model.specs.Runs.{EachRun, EachResync};
+ghost use Rattle.bisync_model.specs.Effects.{after};
+ghost use Rattle.bisync_model.specs.Runs.{ArePaths, EachRun, EachResync};
 ghost use Rattle.bisync_model.specs.Views.{known_of, resync_known_of};
 ghost use Rattle.bisync_listing.specs.Spelling.{listing_text};
 ghost use Rattle.bisync_plan.specs.Conditions.{KeepsTimes};
-ghost use Rattle.bisync_plan.specs.Plans.{AreRowsOf, IsPlanOf, IsResyncOf};
+ghost use Rattle.bisync_plan.specs.Plans.{AreRowsOf, IsPlanOf, IsResyncOf, ListsTrees};
 ghost use Rattle.bisync_plan.specs.Faults.{most, IsFaultOf, IsResyncFault};
 
 use crate::{Plan, PlanFault};
@@ -75,6 +77,19 @@ pub fn resync_rows_are_the_listing_of_the_outcome()
         AreRowsOf (resync_entry known) side rows →
         ((p : PathBytes) → file_at tree p ≡ resync_outcome known start side p) →
         rows ≡ listing_of known.policy.compare known.policy.passes tree) }
+{}
+
+/// The new listings of a plan, which are made before the first change, are the listings of the
+/// trees that its steps leave.
+pub fn new_listings_are_of_the_trees_that_the_steps_leave()
+    ensures run { (known : Known) (start : Trees) (paths : List PathBytes) (made : Plan) (one two : Tree) →
+        AreListed known start → ArePaths known paths → IsPlanOf known paths made →
+        SameTrees (trees_of one two) (after known.policy.window made.steps.items start) →
+        ListsTrees known.policy one two made }
+    ensures resync { EachResync (λ known start paths. (made : Plan) (one two : Tree) →
+        IsResyncOf known paths made →
+        SameTrees (trees_of one two) (after known.policy.window made.steps.items start) →
+        ListsTrees known.policy one two made) }
 {}
 
 /// A run, and a resync, with a window as coarse as both sides' compares times that both keep.
