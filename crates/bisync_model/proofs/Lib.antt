@@ -25,3 +25,6 @@ pub mod TreesOfDevices
 pub mod KeptPaths
 pub mod NamesOfPaths
 pub mod StepsOfPaths
+pub mod FilesFound
+pub mod StepsFindFiles
+pub mod CopiesFindFiles

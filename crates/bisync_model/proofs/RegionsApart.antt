@@ -89,7 +89,7 @@ module _ (run : Run) (names : List Given) where
   abbrev pub owned : List PathBytes → List Owned
   owned paths = owned_all (λ p. deletes_by run.known p (rule_at run.known p)) paths ++ owned_all (λ p. moves_by run.known names p (rule_at run.known p)) paths
 
-  plan-owned : (paths : List PathBytes) → steps_of (owned paths) ≡ plan run.known names paths
+  pub plan-owned : (paths : List PathBytes) → steps_of (owned paths) ≡ plan run.known names paths
   plan-owned paths =
       steps_of-append (owned_all (λ p. deletes_by run.known p (rule_at run.known p)) paths) (owned_all (λ p. moves_by run.known names p (rule_at run.known p)) paths)
       ∙ (λ i. steps_of-owned_all (λ p. deletes_by run.known p (rule_at run.known p)) paths i ++ steps_of-owned_all (λ p. moves_by run.known names p (rule_at run.known p)) paths i)
@@ -118,13 +118,13 @@ module _ (run : Run) (names : List Given) where
     moves_apart q Conflict e =
         apart-owned_by (Region names) p q (moves_by run.known names q Conflict) (moves_in q Conflict) (met q (some_rule Conflict (λ x. cc) q e))
 
-    owned_apart : (paths : List PathBytes) → AllApart (Region names) p (owned paths)
+    pub owned_apart : (paths : List PathBytes) → AllApart (Region names) p (owned paths)
     owned_apart paths =
         AllApart-append (Region names) p (owned_all (λ q. deletes_by run.known q (rule_at run.known q)) paths) (owned_all (λ q. moves_by run.known names q (rule_at run.known q)) paths)
         (apart-owned_all (Region names) p (λ q. deletes_by run.known q (rule_at run.known q)) paths (λ q. deletes_apart q (rule_at run.known q) refl))
         (apart-owned_all (Region names) p (λ q. moves_by run.known names q (rule_at run.known q)) paths (λ q. moves_apart q (rule_at run.known q) refl))
 
-    only-owned : (paths : List PathBytes) → Distinct paths → (rule_at run.known p ≢ Nothing → is_among p paths ≡ true) → only p (owned paths) ≡ steps_at p
+    pub only-owned : (paths : List PathBytes) → Distinct paths → (rule_at run.known p ≢ Nothing → is_among p paths ≡ true) → only p (owned paths) ≡ steps_at p
     only-owned paths distinct covered = go (is_among p paths) refl
       where
         D : PathBytes → List Step

@@ -31,7 +31,7 @@ use Rattle.bisync_model.proofs.WholePlan.{distinct-rising}
 use Rattle.bisync_model.proofs.Agreement.{carried_same}
 use Rattle.bisync_model.proofs.FinalEntries.{carried_listed}
 
-abbrev Alone : PathBytes → PathBytes → Type 0
+abbrev pub Alone : PathBytes → PathBytes → Type 0
 Alone p n = n ≡ p
 
 -- a source is listed
@@ -82,7 +82,7 @@ module _ (run : Run) where
       go None e = record { along = λ s. inl refl; end = λ s. ap (λ w. brought_from run.known run.start w p s) (sym e) }
       go (Some from) e = copied_done p from e (source_there p from e)
 
-  F : PathBytes → List Step
+  unfoldable pub F : PathBytes → List Step
   F p = resync_steps run.known p (source_at run.known p)
 
   steps_in : (q : PathBytes) (w : Option Side) → AllIn (Alone q) (resync_steps run.known q w)
@@ -93,11 +93,11 @@ module _ (run : Run) where
       go None = tt
       go (Some e) = (refl, tt)
 
-  owned_apart : (p : PathBytes) (paths : List PathBytes) → AllApart Alone p (owned_all F paths)
+  pub owned_apart : (p : PathBytes) (paths : List PathBytes) → AllApart Alone p (owned_all F paths)
   unfolding F
   owned_apart p paths = apart-owned_all Alone p F paths (λ q. apart-owned_by Alone p q (F q) (steps_in q (source_at run.known q)) (λ n a b. sym a ∙ b))
 
-  only-owned : (p : PathBytes) (paths : List PathBytes) → Distinct paths → (source_at run.known p ≢ None → is_among p paths ≡ true) → only p (owned_all F paths) ≡ F p
+  pub only-owned : (p : PathBytes) (paths : List PathBytes) → Distinct paths → (source_at run.known p ≢ None → is_among p paths ≡ true) → only p (owned_all F paths) ≡ F p
   unfolding F
   only-owned p paths distinct covered = go (is_among p paths) refl
     where
@@ -109,7 +109,7 @@ module _ (run : Run) where
       go true e = only-present p F paths distinct e
       go false e = only-absent p F paths e ∙ idle (source_at run.known p) refl e
 
-  covers : (paths : List PathBytes) → ArePaths run.known paths → (p : PathBytes) → source_at run.known p ≢ None → is_among p paths ≡ true
+  pub covers : (paths : List PathBytes) → ArePaths run.known paths → (p : PathBytes) → source_at run.known p ≢ None → is_among p paths ≡ true
   covers paths are p ne = go (source_at run.known p) refl
     where
       pick : (s : Side) (v : Option Entry) → run.known.now s p ≡ v → run.known.policy.passes p ≡ true → v ≢ None → is_among p paths ≡ true

@@ -43,10 +43,10 @@ module _ (run : Run) (names : List Given) (ok : NamesOk run names) (p : PathByte
   settled_by : (w : Option Side) → winner_at run.known p ≡ w → (s : Side) → settled run.known run.start w p s ≡ by_rule run.known run.start (rule_at run.known p) p s
   settled_by w won s = sym ((λ i. by_rule run.known run.start (e i) p s) ∙ ap (λ w. settled run.known run.start w p s) won)
 
-  named_apart : (l : Side) (n : PathBytes) → name_for names p l ≡ Some n → p ≢ n
+  pub named_apart : (l : Side) (n : PathBytes) → name_for names p l ≡ Some n → p ≢ n
   named_apart l n named is = let there = ok.to_loser p l n named in let here : loser_named names n ≡ None = ap (loser_named names) (sym is) ∙ plain in cc
 
-  two_apart : (m n : PathBytes) → name_for names p One ≡ Some m → name_for names p Two ≡ Some n → m ≢ n
+  pub two_apart : (m n : PathBytes) → name_for names p One ≡ Some m → name_for names p Two ≡ Some n → m ≢ n
   two_apart m n a b is = sides m n (sym (ok.to_loser p One m a) ∙ ap (loser_named names) is ∙ ok.to_loser p Two n b)
     where
       side_or : Side → Option Given → Side
@@ -56,7 +56,7 @@ module _ (run : Run) (names : List Given) (ok : NamesOk run names) (p : PathByte
       sides : (m n : PathBytes) → ◌≡◌ {A = Option Given} (Some (record { path = p; side = One; name = m })) (Some (record { path = p; side = Two; name = n })) → ⊥
       sides m n e = let s : One ≡ Two = ap (side_or One) e in cc
 
-  free_name : (l : Side) (n : PathBytes) → name_for names p l ≡ Some n → (s : Side) → run.start s n ≡ None
+  pub free_name : (l : Side) (n : PathBytes) → name_for names p l ≡ Some n → (s : Side) → run.start s n ≡ None
   free_name l n named One = (ok.free (record { path = p; side = l; name = n }) n (ok.to_loser p l n named)).start1
   free_name l n named Two = (ok.free (record { path = p; side = l; name = n }) n (ok.to_loser p l n named)).start2
 

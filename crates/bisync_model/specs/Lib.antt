@@ -15,3 +15,4 @@ pub mod Safe
 pub mod Finals
 pub mod Resync
 pub mod Views
+pub mod Finds

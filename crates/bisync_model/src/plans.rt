@@ -8,6 +8,7 @@ ghost use Rattle.bisync_model.specs.Names.{loser_named};
 ghost use Rattle.bisync_model.specs.Outcome.{outcome};
 ghost use Rattle.bisync_model.specs.Plan.{plan};
 ghost use Rattle.bisync_model.specs.Effects.{after};
+ghost use Rattle.bisync_model.specs.Finds.{EachFindsFile};
 ghost use Rattle.bisync_model.specs.Runs.{ArePaths, EachRun};
 ghost use Rattle.bisync_model.specs.Changes.{changes_of, changes_at};
 ghost use Rattle.bisync_model.specs.Between.{IsBetween};
@@ -52,6 +53,12 @@ pub fn filtered_file_stays()
 pub fn steps_follow_one_another()
     ensures { (window : Side → Window) (earlier later : List Step) (trees : Trees) →
         after window (earlier ++ later) trees ≡ after window later (after window earlier trees) }
+{}
+
+/// Each step of a plan finds its file as it was listed, once the steps before it are done.
+pub fn each_step_finds_its_file()
+    ensures { EachRun (λ known start paths names.
+        EachFindsFile known.policy (plan known names paths) start) }
 {}
 
 /// The steps make the changes that the case table counts, on each side.

@@ -7,6 +7,7 @@ ghost use Rattle.bisync_model.specs.Policy.{ComparesKeptTimes};
 ghost use Rattle.bisync_model.specs.Entries.{entries_of, SameWherePassing, AgreeAt, AgreeWherePassing};
 ghost use Rattle.bisync_model.specs.Known.{Known};
 ghost use Rattle.bisync_model.specs.Effects.{after};
+ghost use Rattle.bisync_model.specs.Finds.{EachFindsFile};
 ghost use Rattle.bisync_model.specs.Runs.{ArePaths, EachResync};
 ghost use Rattle.bisync_model.specs.Between.{IsMixOf};
 ghost use Rattle.bisync_model.specs.Changes.{changes_of};
@@ -24,6 +25,12 @@ pub fn resync_reaches_its_outcome()
 pub fn each_resync_prefix_is_between()
     ensures { EachResync (λ known start paths. (done : ℕ) → IsMixOf start (resync_outcome known start)
         (after known.policy.window (take done (resync_plan known paths)) start)) }
+{}
+
+/// Each copy of a resync finds its file as it was listed, once the copies before it are done.
+pub fn each_copy_finds_its_file()
+    ensures { EachResync (λ known start paths.
+        EachFindsFile known.policy (resync_plan known paths) start) }
 {}
 
 /// A file whose path doesn't pass the filter rules stays as it is.

@@ -9,3 +9,4 @@ pub mod FinalTexts
 pub mod PlannedRuns
 pub mod ListedParts
 pub mod FaultLaws
+pub mod ListedOutcomes

@@ -1,12 +1,14 @@
 -- The plan of a run: its steps, and what both listings are after it. This project's own.
 use Rattle.std.specs.Prelude.{◌≡◌, ℕ, List, Some}
-use Rattle.bisync_tree.specs.Rows.{PathBytes, Rows, keys, look, AreRising}
+use Rattle.bisync_tree.specs.Rows.{PathBytes, Rows, keys, look, listing_of, AreRising}
+use Rattle.bisync_tree.specs.Tree.{Tree}
 use Rattle.bisync_tree.specs.declared.sides.Side.{Side}
 use Rattle.bisync_tree.specs.declared.sides.Side.TheVariants.{One, Two}
 use Rattle.bisync_tree.specs.declared.windows.Window.TheVariants.{Ns1}
 use Rattle.bisync_tree.specs.declared.entries.Compare.{Compare}
 use Rattle.bisync_tree.specs.declared.steps.Given.{Given}
 use Rattle.bisync_model.specs.Trees.{by_side}
+use Rattle.bisync_model.specs.Policy.{Policy}
 use Rattle.bisync_model.specs.Entries.{Entries}
 use Rattle.bisync_model.specs.Known.{Known}
 use Rattle.bisync_model.specs.Names.{AreNames}
@@ -54,3 +56,8 @@ header_of stamp compare = record {
 pub record AreWritable (header : Header) (made : Plan) : Type 0 where
   pub one : MayBeWritten header made.final1
   pub two : MayBeWritten header made.final2
+
+-- both final listings are those of these trees
+pub record ListsTrees (policy : Policy) (one two : Tree) (made : Plan) : Type 0 where
+  pub one_is : made.final1 ≡ listing_of policy.compare policy.passes one
+  pub two_is : made.final2 ≡ listing_of policy.compare policy.passes two
