@@ -3,11 +3,13 @@
 ghost use Rattle.std.specs.Prelude.{◌≡◌, ◌+◌, [], List, Bool, IsTrue, Result};
 ghost use Rattle.bisync_device.specs.Remote.{RemoteState};
 ghost use Rattle.bisync_model.specs.Changes.{changes_of};
-ghost use Rattle.bisync_transfer.specs.StepEffect.{Performs, IsDone};
-ghost use Rattle.bisync_transfer.specs.StepTrees.{AreDone, GoesOn, KeepsWindows, Leaves};
+ghost use Rattle.bisync_model.specs.Finds.{FindsFile};
+ghost use Rattle.bisync_model.specs.Trees.{Trees, SameTrees};
+ghost use Rattle.bisync_transfer.specs.StepEffect.{HasStepFile, IsDone, Performs, source_of};
+ghost use Rattle.bisync_transfer.specs.StepTrees.{AreDone, GoesOn, KeepsWindows, Leaves, trees_in};
 
 use crate::StepFault;
-use bisync_tree::{Side, Step};
+use bisync_tree::{Compare, Side, Step};
 
 /// Where both remotes tell what they hold, a step leaves its effect in the two trees, and its
 /// changes are counted; or trees and counts are as they were, which they are after `Moved`.
@@ -33,4 +35,12 @@ pub fn steps_are_done_one_after_another()
         IsTrue (tells Side.One) → IsTrue (tells Side.Two) →
         AreDone steps start before → KeepsWindows before after →
         Performs tells step before after answer → GoesOn steps step start after answer }
+{}
+
+/// A step that finds its file as it was listed in some trees finds it on remotes that hold these
+/// trees, and so isn't answered `Moved` where the source tells what it holds.
+pub fn a_listed_file_is_found()
+    ensures { (c : Compare) (step : Step) (trees : Trees) (state : Side → RemoteState) →
+        SameTrees (trees_in state) trees → FindsFile c step trees →
+        HasStepFile step (state (source_of step)) }
 {}
