@@ -10,7 +10,7 @@ use Rattle.bisync_local.specs.declared.remotes.LocalRemote.{LocalRemote}
 use Rattle.bisync_local.specs.declared.sinks.StdoutSink.{StdoutSink}
 use Rattle.bisync_local.specs.declared.works.LocalWork.{LocalWork}
 
-abbrev pub remote_state : LocalRemote → RemoteState
+abbrev pub remote_state : {R File Dir : Type 0} → LocalRemote R File Dir → RemoteState
 remote_state s = record {
   tree = finmap.empty;
   folders = finmap.empty;
@@ -23,7 +23,7 @@ remote_state s = record {
   window = Ns1;
 }
 
-abbrev pub work_state : LocalWork → WorkState
+abbrev pub work_state : {R File Dir : Type 0} → LocalWork R File Dir → WorkState
 work_state s = record {
   folder = record {
     one = Absent;
@@ -47,5 +47,5 @@ work_state s = record {
   left = None;
 }
 
-abbrev pub stdout_state : StdoutSink → SinkState
+abbrev pub stdout_state : {R : Type 0} → StdoutSink R → SinkState
 stdout_state s = record { bytes = []; faults = s.faults.count }

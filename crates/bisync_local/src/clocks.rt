@@ -1,9 +1,8 @@
 ghost use Rattle.std.specs.Prelude.{false, pos};
 
 use bisync_device::Clock;
-use std::io;
 use std::io::ErrorKind;
-use std::time;
+use std::{io, time};
 
 /// The system's clock. It tells no moment.
 #[derive(Drop)]
