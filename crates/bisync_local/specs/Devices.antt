@@ -1,11 +1,13 @@
--- What the real devices tell: what is open and in writing, and their faults. Of what they hold they tell nothing.
-use Rattle.std.specs.Prelude.{ℕ, List, [], Option, None, is_some, option_map}
+-- What the real devices tell: what is open and in writing, and their faults. Of what they hold they tell nothing, and
+-- the parts that stand for it are empty.
+use Rattle.std.specs.Prelude.{ℤ, [], None, is_some, option_map}
 use Rattle.std.specs.FinMap as finmap
 use Rattle.bisync_device.specs.Remote.{RemoteState}
 use Rattle.bisync_device.specs.Sink.{SinkState}
 use Rattle.bisync_device.specs.Work.{WorkState}
 use Rattle.bisync_device.specs.WorkFolder.{Absent}
 use Rattle.bisync_tree.specs.declared.windows.Window.TheVariants.{Ns1}
+use Rattle.bisync_local.specs.declared.clocks.SystemClock.{SystemClock}
 use Rattle.bisync_local.specs.declared.remotes.LocalRemote.{LocalRemote}
 use Rattle.bisync_local.specs.declared.sinks.StdoutSink.{StdoutSink}
 use Rattle.bisync_local.specs.declared.works.LocalWork.{LocalWork}
@@ -49,3 +51,7 @@ work_state s = record {
 
 abbrev pub stdout_state : {R : Type 0} → StdoutSink R → SinkState
 stdout_state s = record { bytes = []; faults = s.faults.count }
+
+-- the moment that the clock answered last
+abbrev pub last_moment : {R : Type 0} → SystemClock R → ℤ
+last_moment s = s.last

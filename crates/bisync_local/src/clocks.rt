@@ -1,4 +1,5 @@
-ghost use Rattle.std.specs.Prelude.{false, pos};
+ghost use Rattle.std.specs.Prelude.{◌≡◌, false, pos};
+ghost use Rattle.bisync_local.specs.Devices.{last_moment};
 
 use bisync_device::Clock;
 use std::io::ErrorKind;
@@ -12,7 +13,9 @@ pub struct SystemClock<'a, R> {
 }
 
 impl<'a, R: time::Clock> SystemClock<'a, R> {
-    pub fn new(rt: &'a R) -> SystemClock<'a, R> {
+    pub fn new(rt: &'a R) -> SystemClock<'a, R>
+        ensures { last_moment result ≡ pos 0 }
+    {
         SystemClock { rt, last: 0 }
     }
 }
@@ -20,7 +23,7 @@ impl<'a, R: time::Clock> SystemClock<'a, R> {
 impl<'a, R: time::Clock> Clock for SystemClock<'a, R> {
     ghost tells = { false };
 
-    ghost moment = { λ _. pos 0 };
+    ghost moment = { last_moment };
 
     /// Where the clock can't be read, or its moment isn't in `i64`, the moment that was answered
     /// last, which is 0 at first.

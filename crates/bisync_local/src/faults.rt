@@ -1,4 +1,4 @@
-ghost use Rattle.std.specs.Prelude.{◌≡◌, true, is_err, Err};
+ghost use Rattle.std.specs.Prelude.{◌≡◌, true, is_err, Ok, Err, IfOk};
 ghost use Rattle.bisync_device.specs.Faults.{HasCause, is_failed};
 
 use bisync_device::{Failed, ListFault};
@@ -28,7 +28,9 @@ impl Faults {
 
     /// What a device answers where the system answered this.
     pub fn answer<T: Drop>(&mut self, outcome: io::Result<T>) -> Result<T, Failed>
-        ensures { HasCause (is_err result) self.old.count self.new.count }
+        ensures cause { HasCause (is_err result) self.old.count self.new.count }
+        ensures value { IfOk result (λ value. outcome ≡ Ok value) }
+        ensures failed { is_err result ≡ is_err outcome }
     {
         match outcome {
             Ok(value) => Ok(value),

@@ -1,4 +1,5 @@
 ghost use Rattle.std.specs.Prelude.{◌≡◌, false};
+ghost use Rattle.bisync_device.specs.Remote.{IsClosed};
 ghost use Rattle.bisync_local.specs.Devices.{remote_state};
 
 use crate::faults::Faults;
@@ -28,7 +29,8 @@ pub struct LocalRemote<'a, R: Files> {
 impl<'a, R: Files + AllocGlobal + Processes + Clone + Drop> LocalRemote<'a, R> {
     /// A remote that is not attached yet.
     pub fn new(rt: &'a R) -> LocalRemote<'a, R>
-        ensures { (remote_state result).faults ≡ 0 }
+        ensures faults { (remote_state result).faults ≡ 0 }
+        ensures closed { IsClosed (remote_state result) }
     {
         LocalRemote {
             rt,

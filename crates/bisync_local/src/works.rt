@@ -1,4 +1,5 @@
 ghost use Rattle.std.specs.Prelude.{◌≡◌, false};
+ghost use Rattle.bisync_device.specs.Work.{IsWorkClosed};
 ghost use Rattle.bisync_local.specs.Devices.{work_state};
 
 use crate::faults::Faults;
@@ -39,7 +40,8 @@ pub struct LocalWork<'a, R: Files> {
 impl<'a, R: Files + AllocGlobal> LocalWork<'a, R> {
     /// A work folder that is not attached yet.
     pub fn new(rt: &'a R) -> LocalWork<'a, R>
-        ensures { (work_state result).faults ≡ 0 }
+        ensures faults { (work_state result).faults ≡ 0 }
+        ensures closed { IsWorkClosed (work_state result) }
     {
         LocalWork {
             rt,
