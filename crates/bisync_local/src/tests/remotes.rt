@@ -1,4 +1,5 @@
 use crate::LocalRemote;
+use crate::tests::make_room;
 use bisync_device::{Failed, Folders, Remote};
 use bisync_text::{Path, Text};
 use bisync_tree::Item;
@@ -102,12 +103,13 @@ fn is(item: &Item, want: &(&str, u64, i64)) -> bool {
 
 #[test]
 fn files_are_put_listed_and_read(rt: HostRuntime) -> Result<(), Fail> {
+    make_room(&rt, "put-room")?;
     let mut tried = Tried::new(&rt);
     assert!(rt; tried.remote.begin() == Err(Failed));
-    assert!(rt; tried.attach("a root")? == Err(Failed));
+    assert!(rt; tried.attach("put-room/a root")? == Err(Failed));
     assert!(rt; tried.attach("")? == Err(Failed));
-    fs::create_dir(&rt, "a root")?;
-    assert!(rt; tried.attach("a root/")? == Ok(()));
+    fs::create_dir(&rt, "put-room/a root")?;
+    assert!(rt; tried.attach("put-room/a root/")? == Ok(()));
     let wants = [
         ("plain.txt", 3, 1_700_000_000_123_456_789),
         ("new folder/deep/a \"quote\"", 3, -1),
@@ -118,7 +120,7 @@ fn files_are_put_listed_and_read(rt: HostRuntime) -> Result<(), Fail> {
     for (want, text) in wants.iter().zip(texts.iter()) {
         assert!(rt; tried.put(want.0, text, want.2)? == Ok(()));
     }
-    fs::write(&rt, "a root/.bisync-partial", "left")?;
+    fs::write(&rt, "put-room/a root/.bisync-partial", "left")?;
     assert!(rt; tried.lists(&wants)?);
     assert!(rt; tried.reads("new folder/deep/a \"quote\"", "two")?);
     for path in ["new folder", "absent", "plain.txt/below", "absent/below"] {
@@ -127,25 +129,27 @@ fn files_are_put_listed_and_read(rt: HostRuntime) -> Result<(), Fail> {
     assert!(rt; tried.put("new folder", "one", 0)? == Err(Failed));
     assert!(rt; tried.put("plain.txt/below", "one", 0)? == Err(Failed));
     assert_eq!(rt; tried.remote.faults(), 5);
+    fs::remove_dir_all(&rt, "put-room")?;
     Ok(())
 }
 
 #[test]
 fn links_are_not_followed(rt: HostRuntime) -> Result<(), Fail> {
-    fs::create_dir_all(&rt, "root/folder")?;
-    fs::create_dir(&rt, "outside")?;
-    fs::write(&rt, "outside/secret", "secret")?;
-    symlink(&rt, "../outside", "root/link")?;
-    symlink(&rt, "../../outside/secret", "root/folder/file")?;
+    make_room(&rt, "link-room")?;
+    fs::create_dir_all(&rt, "link-room/root/folder")?;
+    fs::create_dir(&rt, "link-room/outside")?;
+    fs::write(&rt, "link-room/outside/secret", "secret")?;
+    symlink(&rt, "../outside", "link-room/root/link")?;
+    symlink(&rt, "../../outside/secret", "link-room/root/folder/file")?;
     let mut tried = Tried::new(&rt);
-    assert!(rt; tried.attach("root")? == Ok(()));
+    assert!(rt; tried.attach("link-room/root")? == Ok(()));
     assert!(rt; tried.lists(&[])?);
     assert!(rt; tried.lists_folders(&["folder"])?);
     assert!(rt; tried.open("folder/file")? == Ok(false));
     assert!(rt; tried.delete("folder/file")? == Ok(false));
     assert!(rt; tried.remove_folder("folder")? == Ok(false));
     assert!(rt; tried.remove_folder("link")? == Ok(false));
-    symlink(&rt, "../outside/secret", "root/.bisync-partial")?;
+    symlink(&rt, "../outside/secret", "link-room/root/.bisync-partial")?;
     assert!(rt; tried.put("own", "own", 7)? == Ok(()));
     assert!(rt; tried.put("folder/file", "own", 7)? == Ok(()));
     assert_eq!(rt; tried.remote.faults(), 0);
@@ -157,18 +161,20 @@ fn links_are_not_followed(rt: HostRuntime) -> Result<(), Fail> {
     assert!(rt; tried.make_folder("link/new")? == Err(Failed));
     assert_eq!(rt; tried.remote.faults(), 6);
     assert!(rt; tried.lists(&[("own", 3, 7), ("folder/file", 3, 7)])?);
-    assert!(rt; tried.attach("outside")? == Ok(()));
+    assert!(rt; tried.attach("link-room/outside")? == Ok(()));
     assert!(rt; tried.reads("secret", "sec")?);
     assert!(rt; tried.delete("secret")? == Ok(true));
     assert!(rt; tried.lists(&[])?);
+    fs::remove_dir_all(&rt, "link-room")?;
     Ok(())
 }
 
 #[test]
 fn files_move_and_folders_make_way(rt: HostRuntime) -> Result<(), Fail> {
-    fs::create_dir_all(&rt, "root/empty/inner")?;
+    make_room(&rt, "move-room")?;
+    fs::create_dir_all(&rt, "move-room/root/empty/inner")?;
     let mut tried = Tried::new(&rt);
-    assert!(rt; tried.attach("root")? == Ok(()));
+    assert!(rt; tried.attach("move-room/root")? == Ok(()));
     for path in ["a", "b", "c"] {
         assert!(rt; tried.put(path, path, 1)? == Ok(()));
     }
@@ -198,5 +204,6 @@ fn files_move_and_folders_make_way(rt: HostRuntime) -> Result<(), Fail> {
     assert!(rt; tried.put("empty", "d", 1)? == Ok(()));
     assert!(rt; tried.lists(&[("new/deep/b", 1, 1), ("empty", 1, 1)])?);
     assert_eq!(rt; tried.remote.faults(), 1);
+    fs::remove_dir_all(&rt, "move-room")?;
     Ok(())
 }

@@ -1,4 +1,5 @@
 use crate::LocalWork;
+use crate::tests::make_room;
 use bisync_device::{Failed, Work, WorkName};
 use bisync_text::Text;
 use std::alloc::Global;
@@ -8,8 +9,13 @@ use std::test::Fail;
 
 const SESSION: &[u8; 32] = b"0123456789abcdef0123456789abcdef";
 
-fn attach<W: Work>(work: &mut W, alloc: Global, filters: Option<&str>) -> Result<(), Fail> {
-    let folder = Text::from_bytes(alloc, b"state/work")?;
+fn attach<W: Work>(
+    work: &mut W,
+    alloc: Global,
+    folder: &str,
+    filters: Option<&str>,
+) -> Result<(), Fail> {
+    let folder = Text::from_bytes(alloc, folder.as_bytes())?;
     match filters {
         Some(filters) => {
             let filters = Text::from_bytes(alloc, filters.as_bytes())?;
@@ -40,9 +46,10 @@ fn reads<W: Work>(work: &mut W, name: WorkName, bytes: &str) -> Result<bool, Fai
 
 #[test]
 fn names_are_made_written_moved_and_removed(rt: HostRuntime) -> Result<(), Fail> {
+    make_room(&rt, "name-room")?;
     let mut work = LocalWork::new(&rt);
     assert!(rt; work.open(WorkName::One) == Err(Failed));
-    attach(&mut work, rt.alloc(), None)?;
+    attach(&mut work, rt.alloc(), "name-room/state/work", None)?;
     assert!(rt; work.create(WorkName::Lock)?);
     assert!(rt; !work.create(WorkName::Lock)?);
     write(&mut work, WorkName::Lock, "lock")?;
@@ -50,7 +57,10 @@ fn names_are_made_written_moved_and_removed(rt: HostRuntime) -> Result<(), Fail>
     write(&mut work, WorkName::OneNew, "new")?;
     assert!(rt; work.rename(WorkName::OneNew, WorkName::Lock)?);
     assert!(rt; !work.rename(WorkName::OneNew, WorkName::Lock)?);
-    let text = fs::read_to_string(&rt, "state/work/0123456789abcdef0123456789abcdef.lock")?;
+    let text = fs::read_to_string(
+        &rt,
+        "name-room/state/work/0123456789abcdef0123456789abcdef.lock",
+    )?;
     assert!(rt; text.as_str() == "new");
     assert!(rt; work.remove(WorkName::Lock)?);
     assert!(rt; !work.remove(WorkName::Lock)?);
@@ -59,22 +69,30 @@ fn names_are_made_written_moved_and_removed(rt: HostRuntime) -> Result<(), Fail>
     assert_eq!(rt; work.faults(), 1);
     assert!(rt; work.begin(WorkName::Filters) == Err(Failed));
     assert_eq!(rt; work.faults(), 2);
+    fs::remove_dir_all(&rt, "name-room")?;
     Ok(())
 }
 
 #[test]
 fn the_filters_file_lies_where_it_was_named(rt: HostRuntime) -> Result<(), Fail> {
-    fs::write(&rt, "real", "- a")?;
-    symlink(&rt, "real", "filters")?;
-    symlink(&rt, "real", "filters.md5")?;
+    make_room(&rt, "filter-room")?;
+    fs::write(&rt, "filter-room/real", "- a")?;
+    symlink(&rt, "real", "filter-room/filters")?;
+    symlink(&rt, "real", "filter-room/filters.md5")?;
     let mut work = LocalWork::new(&rt);
-    attach(&mut work, rt.alloc(), Some("filters"))?;
+    attach(
+        &mut work,
+        rt.alloc(),
+        "filter-room",
+        Some("filter-room/filters"),
+    )?;
     assert!(rt; reads(&mut work, WorkName::Filters, "- a")?);
     assert!(rt; work.open(WorkName::FiltersMd5) == Err(Failed));
     write(&mut work, WorkName::FiltersMd5, "md5")?;
     assert!(rt; reads(&mut work, WorkName::FiltersMd5, "md5")?);
     assert!(rt; reads(&mut work, WorkName::Filters, "- a")?);
-    assert!(rt; fs::read_to_string(&rt, "filters.md5")?.as_str() == "md5");
+    assert!(rt; fs::read_to_string(&rt, "filter-room/filters.md5")?.as_str() == "md5");
     assert_eq!(rt; work.faults(), 1);
+    fs::remove_dir_all(&rt, "filter-room")?;
     Ok(())
 }
