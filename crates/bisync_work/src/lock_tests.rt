@@ -1,6 +1,7 @@
 //! The lock and the filters file in folders in memory.
 
-ghost use Rattle.std.specs.Prelude.{false, [], None, ◌-◌, ◌^◌};
+ghost use Rattle.std.specs.Prelude.{◌≡◌, true, false, [], None};
+ghost use Rattle.bisync_device.specs.Faults.{HasCause};
 ghost use Rattle.bisync_device.specs.WorkFolder.{Absent};
 
 use crate::{
@@ -242,7 +243,22 @@ fn a_stored_digest_has_one_text(rt: HostRuntime) -> Result<(), Fail> {
 
 /// A folder that tells nothing, makes no name and has none.
 #[derive(Drop)]
-struct Blank;
+struct Blank {
+    opened: bool,
+    writing: Option<WorkName>,
+    faults: u64,
+}
+
+impl Blank {
+    fn fail(&mut self)
+        ensures count { HasCause true self.old.faults self.new.faults }
+        ensures opened { self.new.opened ≡ self.old.opened }
+        ensures writing { self.new.writing ≡ None }
+    {
+        self.writing = None;
+        self.faults = self.faults.saturating_add(1);
+    }
+}
 
 impl Work for Blank {
     ghost tells = { false };
@@ -264,9 +280,9 @@ impl Work for Blank {
         filters = Absent;
         filters_md5 = Absent;
       };
-      reading = record { opened = false; rest = [] };
-      writing = None;
-      faults = 2 ^ 64 - 1;
+      reading = record { opened = blank.opened; rest = [] };
+      writing = blank.writing;
+      faults = blank.faults;
       left = None;
     } };
 
@@ -276,14 +292,19 @@ impl Work for Blank {
         _session: &[u8; 32],
         _filters: Option<&Text>,
     ) -> Result<(), Failed> {
-        Err(Failed)
+        self.opened = false;
+        self.writing = None;
+        Ok(())
     }
 
     fn open(&mut self, _name: WorkName) -> Result<bool, Failed> {
+        self.opened = false;
         Ok(false)
     }
 
     fn read(&mut self, _buffer: &mut [u8]) -> Result<usize, Failed> {
+        self.opened = false;
+        self.faults = self.faults.saturating_add(1);
         Err(Failed)
     }
 
@@ -292,29 +313,38 @@ impl Work for Blank {
     }
 
     fn begin(&mut self, _name: WorkName) -> Result<(), Failed> {
+        self.fail();
         Err(Failed)
     }
 
     fn append(&mut self, _bytes: &[u8]) -> Result<(), Failed> {
+        self.fail();
         Err(Failed)
     }
 
     fn sync(&mut self) -> Result<(), Failed> {
+        self.fail();
         Err(Failed)
     }
 
     fn rename(&mut self, _from: WorkName, _to: WorkName) -> Result<bool, Failed> {
+        self.writing = None;
         Ok(false)
     }
 
     fn remove(&mut self, _name: WorkName) -> Result<bool, Failed> {
+        self.writing = None;
         Ok(false)
     }
 }
 
 #[test]
 fn a_lock_that_is_neither_made_nor_there_is_unreadable(rt: HostRuntime) {
-    let mut work = Blank;
+    let mut work = Blank {
+        opened: false,
+        writing: None,
+        faults: 0,
+    };
     assert!(rt; take_lock(&mut work, 0, None) == Ok(Taken::Held(Until::Unreadable)));
     assert!(rt; renew(&mut work, 0, TWO_MINUTES) == Err(Failed));
     assert!(rt; free_lock(&mut work) == Ok(()));
