@@ -6,7 +6,7 @@ use Rattle.bisync_tree.specs.declared.windows.Window.{Window}
 use Rattle.bisync_tree.specs.declared.entries.Entry.{Entry}
 use Rattle.bisync_tree.specs.declared.entries.Compare.{Compare}
 
--- a number of a writing that a listing may have
+-- a stamp that a listing may have
 pub record IsStamp (stamp : ℕ) : Type 0 where
   pub low : 1 ≤ stamp
   pub high : stamp ≤ 999_999_999_999_999_999

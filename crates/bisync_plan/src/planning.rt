@@ -26,7 +26,7 @@ use bisync_tree::{Compare, ConflictRule, Given, Limits, Listing, Prefer, Side, V
 use std::alloc::Global;
 
 /// The header of the new listings: the stamp, and the compared fields with times to the nanosecond.
-fn header(stamp: u64, compare: &Compare) -> Header
+pub fn header(stamp: u64, compare: &Compare) -> Header
     ensures { result ≡ header_of stamp compare.now }
 {
     Header {

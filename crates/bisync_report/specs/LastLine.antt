@@ -15,7 +15,7 @@ use Rattle.bisync_report.specs.Names.{side_text, option_text, work_text}
 use Rattle.bisync_report.specs.declared.ends.Need.{Need}
 use Rattle.bisync_report.specs.declared.ends.Need.TheVariants.{NoBase, NotRecovering, FieldsChanged}
 use Rattle.bisync_report.specs.declared.ends.End.{End}
-use Rattle.bisync_report.specs.declared.ends.End.TheVariants.{Done, Resynced, DryRun, InSync, Demo, Usage, WorkFault, NoFilters, BadRule, Locked, FiltersChanged, BadListing, NeedResync, ListingsDiffer, EmptyPrior, RemoteFault, BadPath, TooMany, CheckAccess, EmptyCurrent, TooManyDeletes, AllChanged, NameTooLong, ListingTooLong, OutOfSync, Moved, SinkFault, LockLeft, FoldersLeft, KeepFault, Checked, OutOfMemory}
+use Rattle.bisync_report.specs.declared.ends.End.TheVariants.{Done, Resynced, DryRun, InSync, Demo, Usage, WorkFault, NoFilters, BadRule, Locked, FiltersChanged, BadListing, NeedResync, ListingsDiffer, EmptyPrior, RemoteFault, BadPath, TooMany, CheckAccess, EmptyCurrent, TooManyDeletes, AllChanged, NameTooLong, ListingTooLong, OutOfSync, Moved, SinkFault, LockLeft, FoldersLeft, KeepFault, Checked, NotBuilt, OutOfMemory}
 
 abbrev pub usage_text : UsageKind → List ℕ
 usage_text Command = codes "usage: no such command"
@@ -79,6 +79,7 @@ end_text LockLeft = codes "lock could not be removed"
 end_text (FoldersLeft cause) = codes "folders were left"
 end_text (KeepFault side) = side_text side ++ codes ": backup folder failed"
 end_text (Checked differ) = codes "check done, " ++ (decimal differ ++ codes " differ")
+end_text NotBuilt = codes "not built"
 end_text OutOfMemory = codes "out of memory"
 
 -- a line of the program, with its newline

@@ -1,7 +1,7 @@
 -- Exit statuses, and which ends make the base fall. The table is this project's own.
 use Rattle.std.specs.Prelude.{ℕ, zero, suc, Bool, true, false}
 use Rattle.bisync_report.specs.declared.ends.End.{End}
-use Rattle.bisync_report.specs.declared.ends.End.TheVariants.{Done, Resynced, DryRun, InSync, Demo, Usage, WorkFault, NoFilters, BadRule, Locked, FiltersChanged, BadListing, NeedResync, ListingsDiffer, EmptyPrior, RemoteFault, BadPath, TooMany, CheckAccess, EmptyCurrent, TooManyDeletes, AllChanged, NameTooLong, ListingTooLong, OutOfSync, Moved, SinkFault, LockLeft, FoldersLeft, KeepFault, Checked, OutOfMemory}
+use Rattle.bisync_report.specs.declared.ends.End.TheVariants.{Done, Resynced, DryRun, InSync, Demo, Usage, WorkFault, NoFilters, BadRule, Locked, FiltersChanged, BadListing, NeedResync, ListingsDiffer, EmptyPrior, RemoteFault, BadPath, TooMany, CheckAccess, EmptyCurrent, TooManyDeletes, AllChanged, NameTooLong, ListingTooLong, OutOfSync, Moved, SinkFault, LockLeft, FoldersLeft, KeepFault, Checked, NotBuilt, OutOfMemory}
 
 -- the status of an end that falls, where the run isn't resilient
 abbrev pub unless_resilient : Bool → ℕ
@@ -45,6 +45,7 @@ status_of LockLeft resilient = 1
 status_of (FoldersLeft cause) resilient = 1
 status_of (KeepFault side) resilient = 1
 status_of (Checked differ) resilient = check_status differ
+status_of NotBuilt resilient = 2
 status_of OutOfMemory resilient = 1
 
 -- whether the base falls
@@ -80,4 +81,5 @@ falls_of LockLeft = false
 falls_of (FoldersLeft cause) = false
 falls_of (KeepFault side) = false
 falls_of (Checked differ) = false
+falls_of NotBuilt = false
 falls_of OutOfMemory = false

@@ -52,6 +52,7 @@ pub fn parts_of<'a>(end: &'a End) -> Parts<'a>
         End::FoldersLeft(_) => words(b"folders were left"),
         End::KeepFault(side) => of_side(*side, b": backup folder failed"),
         End::Checked { differ } => around(b"check done, ", Part::Number(*differ), b" differ"),
+        End::NotBuilt => words(b"not built"),
         End::OutOfMemory => words(b"out of memory"),
     }
 }

@@ -85,6 +85,8 @@ pub enum End {
     Checked {
         differ: u64,
     },
+    /// The words ask for what this version does not do yet.
+    NotBuilt,
     /// Memory was refused.
     OutOfMemory,
 }

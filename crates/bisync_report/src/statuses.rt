@@ -12,7 +12,7 @@ pub fn status(end: &End, resilient: bool) -> u8
     match end {
         End::Done { .. } | End::Resynced { .. } | End::DryRun | End::InSync | End::Demo => 0,
         End::Checked { differ } => u8::from(*differ > 0),
-        End::Usage(_) | End::NoFilters | End::BadRule(_) => 2,
+        End::Usage(_) | End::NoFilters | End::BadRule(_) | End::NotBuilt => 2,
         End::BadListing(..) | End::NeedResync(_) => 7,
         _ if falls(end) && !resilient => 7,
         _ => 1,

@@ -27,7 +27,7 @@ abbrev pub IsExpiry : Option ℤ → Type 0
 IsExpiry None = ⊤
 IsExpiry (Some moment) = FitsSigned w64 moment
 
--- THE SAME AS A FUNCTION
+-- # The same as a function
 
 abbrev pub expiry_word : Option ℤ → List ℕ
 expiry_word None = codes "never"
@@ -37,7 +37,7 @@ expiry_word (Some moment) = time_spelling moment
 abbrev pub lock_text : Option ℤ → List ℕ
 lock_text expiry = lock_with (expiry_word expiry)
 
--- WHAT A TEXT SAYS
+-- # What a text says
 
 -- until when a lock of this expiry holds
 abbrev pub until_of : Option ℤ → Until
@@ -54,7 +54,7 @@ SaysUntil Unreadable text = IsNoLock text
 SaysUntil Never text = text ≡ lock_text None
 SaysUntil (At moment) text = FitsSigned w64 moment × (text ≡ lock_text (Some moment))
 
--- THE EXPIRY OF A NEW LOCK
+-- # The expiry of a new lock
 
 abbrev pub latest : ℤ
 latest = pos (2 ^ 63 - 1)

@@ -39,7 +39,7 @@ pub record IsExpired (now : ℤ) (lock : Held) : Type 0 where
 abbrev pub IsFree : ℤ → Held → Type 0
 IsFree now lock = (lock ≡ Absent) ⊎ IsExpired now lock
 
--- WHAT THE CALLS LEAVE
+-- # What the calls leave
 
 -- all but `lock` and `lock-new`
 abbrev pub but_lock : WorkFolder → WorkFolder
@@ -80,7 +80,7 @@ KeepsBlocking now old new = (until : Until) → Blocks now until old.lock → ne
 abbrev pub relocked : List ℕ → WorkFolder → WorkFolder
 relocked text f = record f { lock = Kept text; lock_new = Absent }
 
--- INTERNAL
+-- # Inside this crate
 
 -- a lock was made, or one was there
 abbrev pub Makes : List ℕ → WorkFolder → WorkFolder → Bool → Type 0

@@ -41,7 +41,7 @@ abbrev pub rules_failed : {A : Type 0} → Result A RulesFault → Bool
 rules_failed (Ok _) = false
 rules_failed (Err fault) = is_device_fault fault
 
--- INTERNAL
+-- # Inside this crate
 
 -- the file begins with the text, which is the whole or more than a filters file may have
 pub record BeginsWith (text : List ℕ) (filters : Held) : Type 0 where

@@ -121,6 +121,7 @@ fn refused_words_have_their_lines_and_statuses(rt: HostRuntime) -> Result<(), Fa
         2,
         2,
     )?;
+    told(alloc, End::NotBuilt, "bisync: not built\n", 2, 2)?;
     told(
         alloc,
         End::Usage(UsageKind::Value(OptName::MaxLock)),
