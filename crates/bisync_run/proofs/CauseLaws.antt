@@ -1,0 +1,38 @@
+-- The counts of faults of one part of a run after another.
+use Rattle.std.proofs.Common.{◌≡◌, ◌≤◌, ℕ, true, false, refl, sym, subst, arith, Result, Ok, Err}
+use Rattle.bisync_report.specs.declared.ends.End.{End}
+use Rattle.bisync_plan.specs.declared.faults.PlanFault.{PlanFault}
+use Rattle.bisync_plan.specs.declared.faults.PlanFault.TheVariants as unplanned
+use Rattle.bisync_run.specs.Counts.{Counts, Later, Stops, HasCauses}
+use Rattle.bisync_run.specs.Looking.{unplanned_end}
+
+le_refl : (n : ℕ) → n ≤ n
+le_refl n = omega arith
+
+pub same_later : (a : Counts) → Later a a
+same_later a = record { one = le_refl a.one; two = le_refl a.two; work = le_refl a.work; sink = le_refl a.sink }
+
+-- one part after another
+pub follows : {T U : Type 0} (a b c : Counts) (x : T) (r : Result U End) → HasCauses a b (Ok x) → HasCauses b c r → HasCauses a c r
+follows a b c x r first rest = subst (λ (k : Counts). HasCauses k c r) (first.good refl) rest
+
+-- what stops a part stops the whole
+pub fails : {T U : Type 0} (a b : Counts) (e : End) → HasCauses {T = T} a b (Err e) → HasCauses {T = U} a b (Err e)
+fails a b e h = record { later = h.later; good = λ (ok : false ≡ true). cc; fault = h.fault }
+
+pub nothing_failed : {T : Type 0} (a : Counts) (x : T) → HasCauses a a (Ok x)
+nothing_failed a x = record { later = same_later a; good = λ ok. refl; fault = tt }
+
+-- that there is no plan is no fault of a device
+unplanned_stops : (a b : Counts) (fault : PlanFault) → Stops a b (unplanned_end fault)
+unplanned_stops a b (unplanned.TooLong side path) = tt
+unplanned_stops a b (unplanned.ListingTooLong side bytes) = tt
+unplanned_stops a b (unplanned.OutOfSync path one two) = tt
+unplanned_stops a b unplanned.OutOfMemory = tt
+
+pub not_planned : {T : Type 0} (a : Counts) (fault : PlanFault) (end : End) → end ≡ unplanned_end fault → HasCauses {T = T} a a (Err end)
+not_planned a fault end is = record {
+  later = same_later a;
+  good = λ (ok : false ≡ true). cc;
+  fault = subst (λ (e : End). Stops a a e) (sym is) (unplanned_stops a a fault);
+}

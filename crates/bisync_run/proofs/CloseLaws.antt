@@ -1,0 +1,44 @@
+-- What a fall and the removal of the lock leave together.
+use Rattle.std.proofs.Common.{◌≡◌, ◌⊎◌, ℕ, sym, ◌∙◌, ap, subst, inl, inr, ⊎_elim, Option, None}
+use Rattle.bisync_device.specs.WorkFolder.{Absent, WorkFolder, IsSettled, with_held}
+use Rattle.bisync_device.specs.declared.works.WorkName.TheVariants.{Lock}
+use Rattle.bisync_work.specs.Base.{Base, IsBase, HasNoBase}
+use Rattle.bisync_work.specs.Moves.{Falls, SameListings, but_fallen}
+use Rattle.bisync_work.proofs.BaseLaws.{same_keeps}
+use Rattle.bisync_run.specs.Closing.{Closes, Unlocks}
+
+-- the folder is as before, or without its lock
+abbrev pub MayUnlock : WorkFolder → WorkFolder → Type 0
+MayUnlock old new = (new ≡ old) ⊎ (new ≡ with_held Lock Absent old)
+
+pub unlocks : (f g : WorkFolder) → MayUnlock f g → Unlocks f g
+unlocks f g (inl same) = record { rest = ap (with_held Lock Absent) same }
+unlocks f g (inr gone) = record { rest = ap (with_held Lock Absent) gone }
+
+pub same_listings : (f g : WorkFolder) → Unlocks f g → SameListings f g
+same_listings f g only = record {
+  one = ap (λ (x : WorkFolder). x.one) only.rest;
+  two = ap (λ (x : WorkFolder). x.two) only.rest;
+  one_old = ap (λ (x : WorkFolder). x.one_old) only.rest;
+  two_old = ap (λ (x : WorkFolder). x.two_old) only.rest;
+}
+
+still_settled : (f g : WorkFolder) → Unlocks f g → IsSettled f → IsSettled g
+still_settled f g only s =
+    let t : IsSettled (with_held Lock Absent g) = subst IsSettled (sym only.rest) (record { one = s.one; two = s.two; one_old = s.one_old; two_old = s.two_old; filters = s.filters }) in
+    record { one = t.one; two = t.two; one_old = t.one_old; two_old = t.two_old; filters = t.filters }
+
+base_then : (f g h : WorkFolder) → Falls f g → Unlocks g h → (limit : ℕ) (base : Option Base) → IsBase limit f base → IsBase limit h base ⊎ HasNoBase limit h
+base_then f g h fell only limit base is =
+    let keeps = same_keeps limit g h (same_listings g h only) in
+    ⊎_elim (λ same. inl (keeps.base base same)) (λ none. inr (keeps.base None none)) (fell.base limit base is)
+
+-- a fall that may have ended early, and then the lock
+pub closes : (f g h : WorkFolder) → Falls f g → MayUnlock g h → Closes f h
+closes f g h fell may =
+    let only = unlocks g h may in
+    record {
+      base = base_then f g h fell only;
+      settled = λ s. still_settled g h only (fell.settled s);
+      rest = ap but_fallen only.rest ∙ ap (with_held Lock Absent) fell.rest;
+    }

@@ -1,0 +1,102 @@
+-- What is known of the end that a held course has when it is closed.
+use Rattle.std.proofs.Common.{◌≡◌, ◌∙◌, ◌&&◌, ◌||◌, ◌++◌, [], ap, subst, sym, refl, inl, inr, Bool, true, false, not, List, ℕ, Result, Ok, Err, OnOk}
+use Rattle.std.specs.Prelude.{IfOk, IfErr, IsOk}
+use Rattle.std.proofs.lemmas.List.{append-nil}
+use Rattle.bisync_tree.specs.declared.options.Limits.{Limits}
+use Rattle.bisync_tree.specs.declared.options.Prefer.{Prefer}
+use Rattle.bisync_device.specs.WorkFolder.{WorkFolder}
+use Rattle.bisync_opts.specs.declared.options.Opts.{Opts}
+use Rattle.bisync_report.specs.Status.{falls_of}
+use Rattle.bisync_report.specs.declared.ends.End.{End}
+use Rattle.bisync_work.specs.Locks.{ChangesLock}
+use Rattle.bisync_run.specs.Closing.{ClosesWith, Unlocks}
+use Rattle.bisync_run.specs.Counts.{Counts, Stops}
+use Rattle.bisync_run.specs.EndKinds.{is_good, is_after_good, is_sink_fault, may_have_changed, may_tell_plan, falls_at_close}
+use Rattle.bisync_run.specs.HeldResyncs.{end_of, IsGoodEndOf, TellsPlan}
+use Rattle.bisync_run.specs.ResyncRefusals.{AnswersResync, HasNoResyncRefusal}
+use Rattle.bisync_run.specs.ResyncRuns.{Matter, sides_in, TellsRun}
+use Rattle.bisync_run.specs.Resyncs.{resync_lines}
+use Rattle.bisync_run.specs.Sides.{Sides}
+use Rattle.bisync_run.specs.Untouched.{Remotes}
+use Rattle.bisync_run.proofs.EndCases.{good_answers, false_true}
+use Rattle.bisync_run.proofs.EndLaws.{stops_not_good, stops_not_after_good}
+
+pub on_ok : {T E P : Type 0} (r : Result T E) → IsOk r → OnOk r P → P
+on_ok (Ok x) is p = p
+on_ok (Err e) is p = false_true is
+
+pub bool_cases : (b : Bool) → (b ≡ true → ⊥) → b ≡ false
+bool_cases true never = absurd (never refl)
+bool_cases false never = refl
+
+pub falls_ok : (resilient dry_run : Bool) (ended : Result End End) → IsOk ended → falls_at_close resilient dry_run ended ≡ false
+falls_ok resilient dry_run (Ok end) is = refl
+falls_ok resilient dry_run (Err end) is = false_true is
+
+and_false : (b : Bool) → (b && false) ≡ false
+and_false true = refl
+and_false false = refl
+
+pub falls_dry : (resilient dry_run : Bool) (ended : Result End End) → dry_run ≡ true → falls_at_close resilient dry_run ended ≡ false
+falls_dry resilient dry_run (Ok end) dry = refl
+falls_dry resilient dry_run (Err end) dry =
+    ap (λ (b : Bool). falls_of end && not resilient && not b) dry ∙ and_false (falls_of end && not resilient)
+
+pub changes_closed : (f f2 g h : WorkFolder) → ChangesLock f f2 → g ≡ f2 → Unlocks g h → ChangesLock f h
+changes_closed f f2 g h changes same unlocks = record {
+  rest = ap (λ (w : WorkFolder). record w { lock_new = Rattle.bisync_device.specs.WorkFolder.Absent }) unlocks.rest
+  ∙ ap (λ (w : WorkFolder). record w { lock = Rattle.bisync_device.specs.WorkFolder.Absent; lock_new = Rattle.bisync_device.specs.WorkFolder.Absent }) same
+  ∙ changes.rest;
+}
+
+pub early_closed : (ended : Result End End) (closed : End) → ClosesWith ended closed → may_have_changed closed ≡ false → may_have_changed (end_of ended) ≡ false
+early_closed (Ok end) closed (inl same) early = ap may_have_changed (sym same) ∙ early
+early_closed (Ok end) closed (inr stays) early = false_true (sym early ∙ ap may_have_changed stays)
+early_closed (Err end) closed same early = ap may_have_changed (sym same) ∙ early
+
+pub answers_closed : (mode : Prefer) (limits : Limits) (f : WorkFolder) (s : Sides) (dry_run : Bool) (ended : Result End End) (closed : End)
+    → ClosesWith ended closed → IfErr ended (AnswersResync mode limits f s) → OnOk ended (HasNoResyncRefusal mode limits f s) → IfOk ended (IsGoodEndOf dry_run mode s)
+    → AnswersResync mode limits f s closed
+answers_closed mode limits f s dry_run (Ok end) closed (inl same) refusal none good =
+    subst (AnswersResync mode limits f s) (sym same) (good_answers mode limits f s dry_run end good none)
+answers_closed mode limits f s dry_run (Ok end) closed (inr stays) refusal none good = subst (AnswersResync mode limits f s) (sym stays) none
+answers_closed mode limits f s dry_run (Err end) closed same refusal none good = subst (AnswersResync mode limits f s) (sym same) refusal
+
+pub numbers_closed : (P : End → Type 0) (old new : Counts) (ended : Result End End) (closed : End)
+    → IfErr ended (Stops old new) → ClosesWith ended closed → IfOk ended P → is_good closed ≡ true → P closed
+numbers_closed P old new (Ok end) closed stops (inl same) good is = subst P (sym same) good
+numbers_closed P old new (Ok end) closed stops (inr stays) good is = false_true (sym (ap is_good stays) ∙ is)
+numbers_closed P old new (Err end) closed stops same good is = absurd (stops_not_good old new end stops (ap is_good (sym same) ∙ is))
+
+or_true : (a b : Bool) → b ≡ true → (a || b) ≡ true
+or_true true b is = refl
+or_true false b is = is
+
+or_first : (a b : Bool) → a ≡ true → (a || b) ≡ true
+or_first a b is = ap (λ (x : Bool). x || b) is
+
+-- # What was told
+
+module _ (mode : Prefer) (opts : Opts) (f : WorkFolder) (start now : Remotes) (m : Matter opts f start) (before after : List ℕ) where
+  told : after ≡ before ++ resync_lines mode (sides_in m) → after ≡ (before ++ resync_lines mode (sides_in m)) ++ []
+  told lines = lines ∙ sym (append-nil (before ++ resync_lines mode (sides_in m)))
+
+  pub tells_closed : (old new : Counts) (ended : Result End End) (closed : End) → IfOk ended (λ end. is_good end ≡ true) → IfErr ended (Stops old new) → ClosesWith ended closed
+      → TellsPlan mode (sides_in m) start now before after ended → TellsRun mode opts f start now before [] after closed
+  tells_closed old new (Ok end) closed well stops (inl same) lines =
+      inr (inr (ap may_tell_plan same ∙ or_true (may_have_changed end) (is_good end) well, (m, told lines)))
+  tells_closed old new (Ok end) closed well stops (inr stays) lines = inr (inr (ap may_tell_plan stays, (m, told lines)))
+  tells_closed old new (Err end) closed well stops same (inl failed) = inl (ap is_sink_fault same ∙ failed)
+  tells_closed old new (Err end) closed well stops same (inr (inl (quiet, untouched))) =
+      inr (inl (ap is_after_good same ∙ bool_cases (is_after_good end) (stops_not_after_good old new end stops), quiet ∙ sym (append-nil before), untouched))
+  tells_closed old new (Err end) closed well stops same (inr (inr (may, lines))) =
+      inr (inr (ap may_tell_plan same ∙ or_first (may_have_changed end) (is_good end) may, (m, told lines)))
+
+-- the last line stands behind what was told before it
+pub tells_last : (mode : Prefer) (opts : Opts) (f : WorkFolder) (start now : Remotes) (before mid after last : List ℕ) (end : End)
+    → TellsRun mode opts f start now before [] mid end → after ≡ mid ++ last → TellsRun mode opts f start now before last after end
+tells_last mode opts f start now before mid after last end (inl failed) added = inl failed
+tells_last mode opts f start now before mid after last end (inr (inl (bad, quiet, untouched))) added =
+    inr (inl (bad, added ∙ ap (λ (l : List ℕ). l ++ last) (quiet ∙ append-nil before), untouched))
+tells_last mode opts f start now before mid after last end (inr (inr (may, (m, lines)))) added =
+    inr (inr (may, (m, added ∙ ap (λ (l : List ℕ). l ++ last) (lines ∙ append-nil (before ++ resync_lines mode (sides_in m))))))

@@ -1,0 +1,55 @@
+-- The cause of a run's end, from its parts.
+use Rattle.std.proofs.Common.{◌≡◌, ◌⊎◌, ◌≤◌, ℕ, true, false, refl, sym, ◌∙◌, ap, subst, inl, inr, arith, Result, Ok, Err}
+use Rattle.std.specs.Prelude.{IfOk, IfErr, IsOk}
+use Rattle.bisync_device.specs.Faults.{Rose}
+use Rattle.bisync_report.specs.declared.ends.End.{End}
+use Rattle.bisync_report.specs.declared.ends.End.TheVariants.{SinkFault}
+use Rattle.bisync_run.specs.Counts.{Counts, counts, Later, Stops, HasCauses, Ends}
+use Rattle.bisync_run.specs.EndKinds.{is_good, is_after_good}
+use Rattle.bisync_run.specs.Closing.{ClosesWith, CountsClose, EndsWith}
+use Rattle.bisync_run.proofs.EndLaws.{rose_within, rose_since, le_same, stops_later, stops_ends, stops_not_good, stops_not_after_good, good_ends, ends_good, ends_later}
+
+-- what a close answers has its cause, where what it closed has
+pub closed_ends : (old : Counts) (a b w s w2 : ℕ) (ended : Result End End) (closed : End) → IfOk ended (λ end. is_good end ≡ true) → HasCauses old (counts a b w s) ended
+    → ClosesWith ended closed → CountsClose ended closed w w2 → Ends old (counts a b w2 s) closed
+closed_ends old a b w s w2 (Ok end) closed good causes is (inl stays) =
+    subst (Ends old (counts a b w2 s)) (sym stays.0) (good_ends old (counts a b w2 s) end good (ap (λ (x : ℕ). counts a b x s) stays.1 ∙ causes.good refl))
+closed_ends old a b w s w2 (Ok end) closed good causes is (inr left) =
+    subst (Ends old (counts a b w2 s)) (sym left.0) (rose_within _ _ _ _ causes.later.work (le_same w2) left.1)
+closed_ends old a b w s w2 (Err end) closed good causes is more =
+    let later : Later (counts a b w s) (counts a b w2 s) = record { one = le_same a; two = le_same b; work = more; sink = le_same s } in
+    subst (Ends old (counts a b w2 s)) (sym is) (stops_ends old (counts a b w2 s) end (stops_later old (counts a b w s) (counts a b w2 s) end causes.fault later))
+
+module _ (old : Counts) (a b w s s2 : ℕ) (closed last : End) (ends : Ends old (counts a b w s) closed) (later : s ≤ s2) where
+  told_same : (is_good last ≡ true → s2 ≡ s) → last ≡ closed → Ends old (counts a b w s2) last
+  told_same kept same =
+      let more : Later (counts a b w s) (counts a b w s2) = record { one = le_same a; two = le_same b; work = le_same w; sink = later } in
+      ends_later old (counts a b w s) (counts a b w s2) last (subst (Ends old (counts a b w s)) (sym same) ends) more (λ good. ap (counts a b w) (kept good))
+
+  told_lost : is_good closed ≡ true → last ≡ SinkFault true → (last ≡ closed) ⊎ Rose s s2 → Ends old (counts a b w s2) last
+  told_lost good lost (inl same) = let unlike : is_good closed ≡ false = ap is_good (sym same ∙ lost) in absurd cc
+  told_lost good lost (inr rose) =
+      let start : Counts.sink old ≤ s = omega (arith, ap Counts.sink (ends_good old (counts a b w s) closed good ends)) in
+      subst (Ends old (counts a b w s2)) (sym lost) (rose_since _ _ _ rose start)
+
+  -- what a run tells has its cause, where the end before its last line has
+  pub told_ends : EndsWith closed last → (is_good last ≡ true → s2 ≡ s) → (is_good closed ≡ true → (last ≡ closed) ⊎ Rose s s2) → Ends old (counts a b w s2) last
+  told_ends (inl same) kept failed = told_same kept same
+  told_ends (inr lost) kept failed = told_lost lost.0 lost.1 (failed lost.0)
+
+-- so has a run that held the lock
+pub run_ends : (old : Counts) (a b w s w2 s2 : ℕ) (ended : Result End End) (closed last : End) → IfOk ended (λ end. is_good end ≡ true) → HasCauses old (counts a b w s) ended
+    → ClosesWith ended closed → CountsClose ended closed w w2 → s ≤ s2 → EndsWith closed last → (is_good last ≡ true → s2 ≡ s)
+    → (is_good closed ≡ true → (last ≡ closed) ⊎ Rose s s2) → Ends old (counts a b w2 s2) last
+run_ends old a b w s w2 s2 ended closed last good causes is close later told kept failed =
+    told_ends old a b w2 s s2 closed last (closed_ends old a b w s w2 ended closed good causes is close) later told kept failed
+
+-- # A good end comes after Ok alone
+
+pub good_was_ok : (old mid : Counts) (ended : Result End End) (closed : End) → IfErr ended (Stops old mid) → ClosesWith ended closed → is_good closed ≡ true → IsOk ended
+good_was_ok old mid (Ok end) closed stops is good = refl
+good_was_ok old mid (Err end) closed stops is good = absurd (stops_not_good old mid end stops (ap is_good (sym is) ∙ good))
+
+pub after_good_was_ok : (old mid : Counts) (ended : Result End End) (closed : End) → IfErr ended (Stops old mid) → ClosesWith ended closed → is_after_good closed ≡ true → IsOk ended
+after_good_was_ok old mid (Ok end) closed stops is good = refl
+after_good_was_ok old mid (Err end) closed stops is good = absurd (stops_not_after_good old mid end stops (ap is_after_good (sym is) ∙ good))

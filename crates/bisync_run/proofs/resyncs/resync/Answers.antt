@@ -1,0 +1,122 @@
+use Rattle.std.proofs.Common.{◌++◌, ◌<◌, ◌^◌, ◌∙◌, ap, refl, inr, arith, ℕ, List}
+use Rattle.bisync_tree.specs.declared.sides.Side.TheVariants.{One, Two}
+use Rattle.bisync_model.specs.Trees.{by_side}
+use Rattle.bisync_run.proofs.EndCases.{device_answers, step_may_change}
+use Rattle.bisync_run.proofs.HeldLaws.{untouched, same_windows, are_within, base_held, done_held, trees_held, finds_held, lines_held, numbers_held}
+use Rattle.bisync_run.proofs.resyncs.resync.Goals as goal
+
+pub returns-in-Ok-carry_out-clause-base : goal.returns-in-Ok-carry_out-clause-base
+returns-in-Ok-carry_out-clause-base g c one two work =
+    let a = g.A.Remote.state c.args.one.now in
+    let b = g.B.Remote.state c.args.two.now in
+    let a2 = g.A.Remote.state c.look_resync.new.one in
+    let b2 = g.B.Remote.state c.look_resync.new.two in
+    let looked = untouched a b a2 b2 (c.in-Ok.ensures.one.tree one) (c.in-Ok.ensures.two.tree two) in
+    let windows = same_windows a b a2 b2 c.in-Ok.ensures.one.window c.in-Ok.ensures.two.window in
+    let f = (g.W.Work.state c.args.work.now).folder in
+    let f2 = (g.W.Work.state c.look_resync.new.work).folder in
+    let small : c.args.limits.now.listing < 2 ^ 64 = omega arith in
+    let fits = are_within c.args.limits.now c.in-Ok.prepared c.in-Ok.ensures.within1 c.in-Ok.ensures.within2 in
+    base_held c.args.mode c.args.limits.now c.args.opts.now.compare c.args.entered.now.rules a b a2 b2 f f2 c.in-Ok.prepared (c.in-Ok.ensures.plan one two) looked windows (c.in-Ok.ensures.folder work)
+    c.in-Ok.ensures.compare (c.in-Ok.ensures.new_stamp work) (g.W.Work.state c.carry_out.new.work).folder
+    (by_side (g.A.Remote.state c.carry_out.new.one) (g.B.Remote.state c.carry_out.new.two)) (c.in-Ok-carry_out.ensures.base one two work c.args.limits.now.listing small fits)
+
+pub returns-in-Ok-carry_out-clause-trees : goal.returns-in-Ok-carry_out-clause-trees
+returns-in-Ok-carry_out-clause-trees g c one two work =
+    let a = g.A.Remote.state c.args.one.now in
+    let b = g.B.Remote.state c.args.two.now in
+    let a2 = g.A.Remote.state c.look_resync.new.one in
+    let b2 = g.B.Remote.state c.look_resync.new.two in
+    let looked = untouched a b a2 b2 (c.in-Ok.ensures.one.tree one) (c.in-Ok.ensures.two.tree two) in
+    let windows = same_windows a b a2 b2 c.in-Ok.ensures.one.window c.in-Ok.ensures.two.window in
+    let f = (g.W.Work.state c.args.work.now).folder in
+    let f2 = (g.W.Work.state c.look_resync.new.work).folder in
+    trees_held c.args.mode c.args.limits.now c.args.opts.now.compare c.args.entered.now.rules a b a2 b2 f f2 c.in-Ok.prepared (c.in-Ok.ensures.plan one two) looked windows (c.in-Ok.ensures.folder work)
+    (c.in-Ok.ensures.accepted one two work) (by_side (g.A.Remote.state c.carry_out.new.one) (g.B.Remote.state c.carry_out.new.two)) (c.in-Ok-carry_out.ensures.part one two)
+
+pub returns-in-Ok-carry_out-clause-resynced : goal.returns-in-Ok-carry_out-clause-resynced
+returns-in-Ok-carry_out-clause-resynced g c one two work dry =
+    let a = g.A.Remote.state c.args.one.now in
+    let b = g.B.Remote.state c.args.two.now in
+    let a2 = g.A.Remote.state c.look_resync.new.one in
+    let b2 = g.B.Remote.state c.look_resync.new.two in
+    let looked = untouched a b a2 b2 (c.in-Ok.ensures.one.tree one) (c.in-Ok.ensures.two.tree two) in
+    let windows = same_windows a b a2 b2 c.in-Ok.ensures.one.window c.in-Ok.ensures.two.window in
+    let f = (g.W.Work.state c.args.work.now).folder in
+    let f2 = (g.W.Work.state c.look_resync.new.work).folder in
+    let small : c.args.limits.now.listing < 2 ^ 64 = omega arith in
+    let fits = are_within c.args.limits.now c.in-Ok.prepared c.in-Ok.ensures.within1 c.in-Ok.ensures.within2 in
+    done_held c.args.mode c.args.limits.now c.args.opts.now.compare c.args.entered.now.rules a b a2 b2 f f2 c.in-Ok.prepared (c.in-Ok.ensures.plan one two) looked windows (c.in-Ok.ensures.folder work)
+    c.in-Ok.ensures.compare (c.in-Ok.ensures.new_stamp work) (g.W.Work.state c.carry_out.new.work).folder
+    (by_side (g.A.Remote.state c.carry_out.new.one) (g.B.Remote.state c.carry_out.new.two)) c.args.entered.now.digest
+    (c.in-Ok-carry_out.ensures.carried_out work c.args.limits.now.listing small fits) (c.in-Ok-carry_out.ensures.rest work) (c.in-Ok-carry_out.ensures.done one two)
+
+pub returns-in-Ok-carry_out-clause-good : goal.returns-in-Ok-carry_out-clause-good
+returns-in-Ok-carry_out-clause-good g c one two =
+    let a = g.A.Remote.state c.args.one.now in
+    let b = g.B.Remote.state c.args.two.now in
+    let a2 = g.A.Remote.state c.look_resync.new.one in
+    let b2 = g.B.Remote.state c.look_resync.new.two in
+    let looked = untouched a b a2 b2 (c.in-Ok.ensures.one.tree one) (c.in-Ok.ensures.two.tree two) in
+    let windows = same_windows a b a2 b2 c.in-Ok.ensures.one.window c.in-Ok.ensures.two.window in
+    let f = (g.W.Work.state c.args.work.now).folder in
+    let plan = c.in-Ok.ensures.plan one two in
+    (c.if-opts.false,
+    numbers_held c.args.mode c.args.limits.now c.args.opts.now.compare c.args.entered.now.rules a b a2 b2 f f c.in-Ok.prepared plan looked windows refl One c.in-Ok-carry_out.changes.one c.in-Ok-carry_out.ensures.changes.0,
+    numbers_held c.args.mode c.args.limits.now c.args.opts.now.compare c.args.entered.now.rules a b a2 b2 f f c.in-Ok.prepared plan looked windows refl Two c.in-Ok-carry_out.changes.two c.in-Ok-carry_out.ensures.changes.1)
+
+pub returns-clause-base : goal.returns-clause-base
+returns-clause-base g c one two work =
+    let a = g.A.Remote.state c.args.one.now in
+    let b = g.B.Remote.state c.args.two.now in
+    let a2 = g.A.Remote.state c.look_resync.new.one in
+    let b2 = g.B.Remote.state c.look_resync.new.two in
+    let looked = untouched a b a2 b2 (c.in-Ok.ensures.one.tree one) (c.in-Ok.ensures.two.tree two) in
+    let windows = same_windows a b a2 b2 c.in-Ok.ensures.one.window c.in-Ok.ensures.two.window in
+    let f = (g.W.Work.state c.args.work.now).folder in
+    let f2 = (g.W.Work.state c.look_resync.new.work).folder in
+    let small : c.args.limits.now.listing < 2 ^ 64 = omega arith in
+    let fits = are_within c.args.limits.now c.in-Ok.prepared c.in-Ok.ensures.within1 c.in-Ok.ensures.within2 in
+    base_held c.args.mode c.args.limits.now c.args.opts.now.compare c.args.entered.now.rules a b a2 b2 f f2 c.in-Ok.prepared (c.in-Ok.ensures.plan one two) looked windows (c.in-Ok.ensures.folder work)
+    c.in-Ok.ensures.compare (c.in-Ok.ensures.new_stamp work) (g.W.Work.state c.carry_out.new.work).folder
+    (by_side (g.A.Remote.state c.carry_out.new.one) (g.B.Remote.state c.carry_out.new.two)) (c.in-Err-carry_out.ensures.base one two work c.args.limits.now.listing small fits)
+
+pub returns-clause-trees : goal.returns-clause-trees
+returns-clause-trees g c one two work =
+    let a = g.A.Remote.state c.args.one.now in
+    let b = g.B.Remote.state c.args.two.now in
+    let a2 = g.A.Remote.state c.look_resync.new.one in
+    let b2 = g.B.Remote.state c.look_resync.new.two in
+    let looked = untouched a b a2 b2 (c.in-Ok.ensures.one.tree one) (c.in-Ok.ensures.two.tree two) in
+    let windows = same_windows a b a2 b2 c.in-Ok.ensures.one.window c.in-Ok.ensures.two.window in
+    let f = (g.W.Work.state c.args.work.now).folder in
+    let f2 = (g.W.Work.state c.look_resync.new.work).folder in
+    trees_held c.args.mode c.args.limits.now c.args.opts.now.compare c.args.entered.now.rules a b a2 b2 f f2 c.in-Ok.prepared (c.in-Ok.ensures.plan one two) looked windows (c.in-Ok.ensures.folder work)
+    (c.in-Ok.ensures.accepted one two work) (by_side (g.A.Remote.state c.carry_out.new.one) (g.B.Remote.state c.carry_out.new.two)) (c.in-Err-carry_out.ensures.part one two)
+
+pub returns-clause-answers : goal.returns-clause-answers
+returns-clause-answers g c one two work =
+    let a = g.A.Remote.state c.args.one.now in
+    let b = g.B.Remote.state c.args.two.now in
+    let a2 = g.A.Remote.state c.look_resync.new.one in
+    let b2 = g.B.Remote.state c.look_resync.new.two in
+    let looked = untouched a b a2 b2 (c.in-Ok.ensures.one.tree one) (c.in-Ok.ensures.two.tree two) in
+    let windows = same_windows a b a2 b2 c.in-Ok.ensures.one.window c.in-Ok.ensures.two.window in
+    let f = (g.W.Work.state c.args.work.now).folder in
+    let f2 = (g.W.Work.state c.look_resync.new.work).folder in
+    device_answers c.args.mode c.args.limits.now f _ c.in-Err-carry_out.end
+    (c.in-Err-carry_out.ensures.found one two (finds_held c.args.mode c.args.limits.now c.args.opts.now.compare c.args.entered.now.rules a b a2 b2 f f2 c.in-Ok.prepared (c.in-Ok.ensures.plan one two) looked windows (c.in-Ok.ensures.folder work)))
+
+pub returns-clause-report : goal.returns-clause-report
+returns-clause-report g c one two sink =
+    let a = g.A.Remote.state c.args.one.now in
+    let b = g.B.Remote.state c.args.two.now in
+    let a2 = g.A.Remote.state c.look_resync.new.one in
+    let b2 = g.B.Remote.state c.look_resync.new.two in
+    let looked = untouched a b a2 b2 (c.in-Ok.ensures.one.tree one) (c.in-Ok.ensures.two.tree two) in
+    let windows = same_windows a b a2 b2 c.in-Ok.ensures.one.window c.in-Ok.ensures.two.window in
+    let f = (g.W.Work.state c.args.work.now).folder in
+    inr (inr (step_may_change c.in-Err-carry_out.end c.in-Err-carry_out.ensures.end,
+    c.in-Ok-plan_lines.ensures.bytes sink
+    ∙ ap (λ (l : List ℕ). (g.S.Sink.state c.args.sink.now).bytes ++ l)
+    (lines_held c.args.mode c.args.limits.now c.args.opts.now.compare c.args.entered.now.rules a b a2 b2 f f c.in-Ok.prepared (c.in-Ok.ensures.plan one two) looked windows refl)))

@@ -1,0 +1,42 @@
+-- What the close of a run leaves: the listings fall where the end asks for it, and the lock goes.
+use Rattle.std.specs.Prelude.{◌≡◌, ◌⊎◌, ◌≤◌, ℕ, true, Option, Result, Ok, Err}
+use Rattle.bisync_device.specs.Faults.{Rose}
+use Rattle.bisync_device.specs.WorkFolder.{Absent, WorkFolder, IsSettled, with_held}
+use Rattle.bisync_device.specs.declared.works.WorkName.TheVariants.{Lock}
+use Rattle.bisync_work.specs.Base.{Base, IsBase, HasNoBase}
+use Rattle.bisync_work.specs.Moves.{but_fallen}
+use Rattle.bisync_report.specs.declared.ends.End.{End}
+use Rattle.bisync_report.specs.declared.ends.End.TheVariants.{LockLeft, SinkFault}
+use Rattle.bisync_run.specs.EndKinds.{is_good}
+
+-- a refusal stays the end; a good end stays, or the lock could not be removed
+abbrev pub ClosesWith : Result End End → End → Type 0
+ClosesWith (Ok good) end = (end ≡ good) ⊎ (end ≡ LockLeft)
+ClosesWith (Err refusal) end = end ≡ refusal
+
+-- the count of the work folder stays after a good end, and rose where the lock could not be removed
+abbrev pub CountsClose : Result End End → End → ℕ → ℕ → Type 0
+CountsClose (Ok good) end before now = ((end ≡ good) × (now ≡ before)) ⊎ ((end ≡ LockLeft) × Rose before now)
+CountsClose (Err refusal) end before now = before ≤ now
+
+-- the base is as before or there is none; what was settled still is, and only the names of a base, the -err names and
+-- the lock changed
+pub record Closes (old new : WorkFolder) : Type 0 where
+  pub base : (limit : ℕ) (base : Option Base) → IsBase limit old base → IsBase limit new base ⊎ HasNoBase limit new
+  pub settled : IsSettled old → IsSettled new
+  pub rest : with_held Lock Absent (but_fallen new) ≡ with_held Lock Absent (but_fallen old)
+
+-- only the lock changed
+pub record Unlocks (old new : WorkFolder) : Type 0 where
+  pub rest : with_held Lock Absent new ≡ with_held Lock Absent old
+
+-- none of the four names of a base is there
+pub record HasNoListings (f : WorkFolder) : Type 0 where
+  pub one : f.one ≡ Absent
+  pub two : f.two ≡ Absent
+  pub one_old : f.one_old ≡ Absent
+  pub two_old : f.two_old ≡ Absent
+
+-- the end stays, but where the last line failed after a good end
+abbrev pub EndsWith : End → End → Type 0
+EndsWith end last = (last ≡ end) ⊎ ((is_good end ≡ true) × (last ≡ SinkFault true))

@@ -1,0 +1,16 @@
+pub mod Counts
+pub mod EndKinds
+pub mod FilterRules
+pub mod Entering
+pub mod Sides
+pub mod ResyncRefusals
+pub mod Grounds
+pub mod Looking
+pub mod Stepping
+pub mod ResyncWriting
+pub mod Closing
+pub mod Untouched
+pub mod CarryingOut
+pub mod Resyncs
+pub mod HeldResyncs
+pub mod ResyncRuns

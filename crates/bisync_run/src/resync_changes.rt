@@ -1,0 +1,68 @@
+//! A resync from its first change on.
+
+ghost use Rattle.std.specs.Prelude.{◌≡◌, ◌<◌, ◌^◌, ℕ, IsTrue, IfOk, IfErr, OnOk, None, length, sum_by};
+ghost use Rattle.bisync_tree.specs.Ranges.{IsLongEnough};
+ghost use Rattle.bisync_model.specs.Trees.{by_side};
+ghost use Rattle.bisync_model.specs.Changes.{changes_of};
+ghost use Rattle.bisync_plan.specs.Plans.{AreWritable, header_of};
+ghost use Rattle.bisync_device.specs.WorkFolder.{IsSettled};
+ghost use Rattle.bisync_transfer.specs.StepTrees.{AreDone};
+ghost use Rattle.bisync_run.specs.CarryingOut.{AreWithin, LeavesOneBase, but_carried, AreCarriedOut};
+ghost use Rattle.bisync_run.specs.Counts.{counts, HasCauses};
+ghost use Rattle.bisync_run.specs.Stepping.{IsPartDone, FindsAll, IsStepEnd, IsDeviceFault, MovedDiffers};
+
+use crate::prepared::Prepared;
+use crate::resync_writes::write_resync;
+use crate::steps::{Changes, Renewal, do_steps};
+use bisync_device::{Clock, Remote, Work};
+use bisync_plan::Plan;
+use bisync_report::End;
+use bisync_tree::Side;
+use bisync_work::switch;
+
+/// Writes the new listings, does the steps and makes the new listings the base. Takes no memory.
+pub fn carry_out<A: Remote, B: Remote, W: Work, C: Clock>(
+    prepared: Prepared,
+    digest: &Option<[u8; 16]>,
+    renewal: Renewal,
+    one: &mut A,
+    two: &mut B,
+    work: &mut W,
+    clock: &mut C,
+    buffer: &mut [u8],
+) -> Result<Changes, End>
+    requires room { 0 < length buffer.old }
+    requires long { IsLongEnough renewal.max_lock }
+    requires writable { AreWritable (header_of prepared.stamp prepared.compare) prepared.plan }
+    ensures base { IsTrue A.tells → IsTrue B.tells → IsTrue W.tells → (limit : ℕ) → limit < 2 ^ 64 → AreWithin limit prepared
+        → LeavesOneBase limit prepared (W.state work.old).folder (by_side (A.state one.old) (B.state two.old)) (W.state work.new).folder (by_side (A.state one.new) (B.state two.new)) }
+    ensures settled { IsTrue W.tells → IsSettled (W.state work.old).folder → IsSettled (W.state work.new).folder }
+    ensures rest { IsTrue W.tells → but_carried (W.state work.new).folder ≡ but_carried (W.state work.old).folder }
+    ensures carried_out { IsTrue W.tells → (limit : ℕ) → limit < 2 ^ 64 → AreWithin limit prepared → OnOk result (AreCarriedOut limit prepared digest.now (W.state work.old).folder (W.state work.new).folder) }
+    ensures done { IsTrue A.tells → IsTrue B.tells → OnOk result (AreDone prepared.plan.steps.items (by_side (A.state one.old) (B.state two.old)) (by_side (A.state one.new) (B.state two.new))) }
+    ensures part { IsTrue A.tells → IsTrue B.tells → IsPartDone prepared.plan.steps.items (by_side (A.state one.old) (B.state two.old)) (by_side (A.state one.new) (B.state two.new)) }
+    ensures changes { IfOk result (λ changes. (changes.one ≡ sum_by (changes_of Side.One) prepared.plan.steps.items) × (changes.two ≡ sum_by (changes_of Side.Two) prepared.plan.steps.items)) }
+    ensures end { IfErr result IsStepEnd }
+    ensures moved { IfErr result MovedDiffers }
+    ensures found { IsTrue A.tells → IsTrue B.tells → FindsAll prepared.plan.steps.items (by_side (A.state one.old) (B.state two.old)) → IfErr result IsDeviceFault }
+    ensures windows { ((A.state one.new).window ≡ (A.state one.old).window) × ((B.state two.new).window ≡ (B.state two.old).window) }
+    ensures left1 { (A.state one.old).left ≡ None → (A.state one.new).left ≡ None }
+    ensures left2 { (B.state two.old).left ≡ None → (B.state two.new).left ≡ None }
+    ensures left { (W.state work.old).left ≡ None → (W.state work.new).left ≡ None }
+    ensures causes { HasCauses (counts (A.state one.old).faults (B.state two.old).faults (W.state work.old).faults 0) (counts (A.state one.new).faults (B.state two.new).faults (W.state work.new).faults 0) result }
+{
+    match write_resync(work, &prepared, digest) {
+        Ok(()) => {}
+        Err(_) => return Err(End::WorkFault),
+    }
+    let Prepared { plan, .. } = prepared;
+    let Plan { steps, .. } = plan;
+    let changes = match do_steps(steps, renewal, one, two, work, clock, buffer) {
+        Ok(changes) => changes,
+        Err(end) => return Err(end),
+    };
+    match switch(work) {
+        Ok(()) => Ok(changes),
+        Err(_) => Err(End::WorkFault),
+    }
+}
