@@ -1,2 +1,3 @@
 mod arguments;
+mod devices;
 mod words;

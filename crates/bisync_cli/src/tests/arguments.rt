@@ -36,9 +36,14 @@ fn words_are_the_bytes_that_were_given(rt: HostRuntime) -> Result<(), Fail> {
     let long = [b'a'; 1000];
     let given: [&[u8]; 5] = [b"lorwethal", b"bisync", b"", b"\xff\xfe", &long];
     let words = words_of(rt.alloc(), &Given { words: &given })?;
-    assert_eq!(rt; words.len(), 4);
-    for (word, wanted) in words.iter().zip(given.iter().skip(1)) {
-        assert_eq!(rt; word.as_bytes(), *wanted);
+    let rest = given.iter().skip(1);
+    if words.len() != 4
+        || words
+            .iter()
+            .zip(rest)
+            .any(|(word, given)| word.as_bytes() != *given)
+    {
+        return Err(Fail::new("words"));
     }
     Ok(())
 }

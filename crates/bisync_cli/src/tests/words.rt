@@ -1,64 +1,12 @@
-//! Words, and what they are answered over devices in memory.
+//! Words that are refused, and words that ask for what isn't built. Each test lends its devices to a
+//! function that has the rows, so that it lets them go in one place.
 
-use crate::answers::Answer;
-use crate::top::bisync_main;
-use bisync_memory::{MemClock, MemRemote, MemSink, MemWork};
+use super::devices::Devices;
 use bisync_opts::{OptName, UsageKind};
 use bisync_report::End;
 use bisync_text::Text;
 use std::alloc::Global;
 use std::test::Fail;
-
-/// All that the top call is given beside the words.
-#[derive(Drop)]
-struct Devices {
-    one: MemRemote,
-    two: MemRemote,
-    keep1: MemRemote,
-    keep2: MemRemote,
-    work: MemWork,
-    clock: MemClock,
-    sink: MemSink,
-}
-
-impl Devices {
-    fn new(alloc: Global) -> Devices {
-        Devices {
-            one: MemRemote::new(alloc),
-            two: MemRemote::new(alloc),
-            keep1: MemRemote::new(alloc),
-            keep2: MemRemote::new(alloc),
-            work: MemWork::new(alloc),
-            clock: MemClock::new(),
-            sink: MemSink::new(alloc),
-        }
-    }
-
-    fn ask(&mut self, alloc: Global, words: &[Text]) -> Answer {
-        bisync_main(
-            alloc,
-            words,
-            &mut self.one,
-            &mut self.two,
-            &mut self.keep1,
-            &mut self.keep2,
-            &mut self.work,
-            &mut self.clock,
-            &mut self.sink,
-        )
-    }
-
-    /// The calls of the remotes and the work folder.
-    fn calls(&self) -> (u64, u64, u64, u64, u64) {
-        (
-            self.one.calls(),
-            self.two.calls(),
-            self.keep1.calls(),
-            self.keep2.calls(),
-            self.work.calls(),
-        )
-    }
-}
 
 /// The words of a line, with a space between them.
 fn words_of(alloc: Global, line: &'static str) -> Result<Vec<Text>, Fail> {
@@ -78,72 +26,107 @@ fn is_end(end: &End, refusal: Option<UsageKind>) -> bool {
     }
 }
 
-#[test]
-fn words_that_ask_for_no_run_touch_nothing(rt: HostRuntime) -> Result<(), Fail> {
-    let alloc = rt.alloc();
-    let bad_lock = UsageKind::Value(OptName::MaxLock);
+/// Asks by these words, which are refused so, or not built for None, with this last line, and touch
+/// nothing.
+fn refused(
+    alloc: Global,
+    devices: &mut Devices,
+    line: &'static str,
+    refusal: Option<UsageKind>,
+    told: &'static str,
+) -> Result<(), Fail> {
+    let before = devices.sink.bytes().len();
+    let answer = devices.ask(alloc, &words_of(alloc, line)?);
+    let is_refused = answer.status == 2 && is_end(&answer.end, refusal);
+    let is_told = devices.sink.bytes().get(before..) == Some(told.as_bytes());
+    if !is_refused || !is_told || devices.are_called() {
+        return Err(Fail::new(line));
+    }
+    Ok(())
+}
+
+fn refusals(alloc: Global, devices: &mut Devices) -> Result<(), Fail> {
+    let command = "bisync: usage: no such command\n";
+    let words = "bisync: usage: words refused\n";
+    let lock = "bisync: usage: bad value of --max-lock\n";
+    let together = "bisync: usage: these options do not go together\n";
     let rows = [
-        ("", Some(UsageKind::Command), "usage: no such command"),
-        (
-            "sync L R",
-            Some(UsageKind::Command),
-            "usage: no such command",
-        ),
-        ("bisync L", Some(UsageKind::Words), "usage: words refused"),
+        ("", UsageKind::Command, command),
+        ("sync L R", UsageKind::Command, command),
+        ("bisync L", UsageKind::Words, words),
         (
             "bisync L R --max-lock 1m",
-            Some(bad_lock),
-            "usage: bad value of --max-lock",
+            UsageKind::Value(OptName::MaxLock),
+            lock,
         ),
         (
             "bisync L R --resync --check-sync only",
-            Some(UsageKind::Together),
-            "usage: these options do not go together",
+            UsageKind::Together,
+            together,
         ),
-        ("bisync L R", None, "not built"),
-        (
-            "bisync L R --resync --create-empty-src-dirs",
-            None,
-            "not built",
-        ),
-        ("bisync L R --resync --remove-empty-dirs", None, "not built"),
-        ("bisync L R --backup-dir1 K", None, "not built"),
-        ("demo 1000", None, "not built"),
-        ("check L R", None, "not built"),
     ];
-    for (line, refusal, told) in rows {
-        let mut devices = Devices::new(alloc);
-        let answer = devices.ask(alloc, &words_of(alloc, line)?);
-        let said = format!(in alloc; "bisync: {told}\n")?;
-        assert_eq!(rt; answer.status, 2, "{line}");
-        assert!(rt; is_end(&answer.end, refusal), "{line}");
-        assert_eq!(rt; devices.sink.bytes(), said.as_bytes(), "{line}");
-        assert_eq!(rt; devices.calls(), (0, 0, 0, 0, 0), "{line}");
+    for (line, kind, told) in rows {
+        refused(alloc, devices, line, Some(kind), told)?;
+    }
+    Ok(())
+}
+
+fn not_built(alloc: Global, devices: &mut Devices) -> Result<(), Fail> {
+    let rows = [
+        "bisync L R",
+        "bisync L R --backup-dir1 K",
+        "bisync L R --resync --create-empty-src-dirs",
+        "bisync L R --resync --remove-empty-dirs",
+        "demo 1000",
+        "check L R",
+    ];
+    for line in rows {
+        refused(alloc, devices, line, None, "bisync: not built\n")?;
+    }
+    Ok(())
+}
+
+/// A word that isn't UTF-8, behind the command and as the first word.
+fn not_utf8(alloc: Global, devices: &mut Devices) -> Result<(), Fail> {
+    let mut words = words_of(alloc, "bisync L")?;
+    words.push(Text::from_bytes(alloc, b"\xff")?)?;
+    if !is_end(&devices.ask(alloc, &words).end, Some(UsageKind::Words)) {
+        return Err(Fail::new("behind the command"));
+    }
+    words.reverse();
+    if !is_end(&devices.ask(alloc, &words).end, Some(UsageKind::Command)) {
+        return Err(Fail::new("as the command"));
+    }
+    Ok(())
+}
+
+/// An answer that can't be told.
+fn untold(alloc: Global, devices: &mut Devices) -> Result<(), Fail> {
+    devices.sink.fail_at(1, false)?;
+    let answer = devices.ask(alloc, &words_of(alloc, "demo 1000")?);
+    let is_untold = devices.sink.calls() == 1 && devices.sink.bytes().is_empty();
+    if answer.status != 2 || !is_end(&answer.end, None) || !is_untold {
+        return Err(Fail::new("not built"));
     }
     Ok(())
 }
 
 #[test]
+fn words_that_are_refused_touch_nothing(rt: HostRuntime) -> Result<(), Fail> {
+    refusals(rt.alloc(), &mut Devices::new(rt.alloc()))
+}
+
+#[test]
+fn what_is_not_built_touches_nothing(rt: HostRuntime) -> Result<(), Fail> {
+    not_built(rt.alloc(), &mut Devices::new(rt.alloc()))
+}
+
+#[test]
 fn words_that_are_no_utf8_are_refused(rt: HostRuntime) -> Result<(), Fail> {
-    let alloc = rt.alloc();
-    let mut words = words_of(alloc, "bisync L")?;
-    words.push(Text::from_bytes(alloc, b"\xff")?)?;
-    let answer = Devices::new(alloc).ask(alloc, &words);
-    assert!(rt; is_end(&answer.end, Some(UsageKind::Words)));
-    words.reverse();
-    let answer = Devices::new(alloc).ask(alloc, &words);
-    assert!(rt; is_end(&answer.end, Some(UsageKind::Command)));
-    Ok(())
+    not_utf8(rt.alloc(), &mut Devices::new(rt.alloc()))
 }
 
 #[test]
 fn an_answer_stays_where_it_cannot_be_told(rt: HostRuntime) -> Result<(), Fail> {
-    let alloc = rt.alloc();
-    let mut devices = Devices::new(alloc);
-    devices.sink.fail_at(1, false)?;
-    let answer = devices.ask(alloc, &words_of(alloc, "demo 1000")?);
-    assert_eq!(rt; answer.status, 2);
-    assert!(rt; is_end(&answer.end, None));
-    assert_eq!(rt; (devices.sink.calls(), devices.sink.bytes().len()), (1, 0));
-    Ok(())
+    untold(rt.alloc(), &mut Devices::new(rt.alloc()))
 }
