@@ -1,0 +1,70 @@
+-- What the words ask for.
+use Rattle.std.specs.Prelude.{ℕ, ⊤, Bool, true, false, not, ◌&&◌, List, [], ◌∷◌, Option, Some, None, Result, Ok, Err, codes, is_some, if◌then◌else◌}
+use Rattle.bisync_opts.specs.Choices.{chosen}
+use Rattle.bisync_opts.specs.Options.{options_of}
+use Rattle.bisync_opts.specs.Ranges.{IsInRange}
+use Rattle.bisync_opts.specs.Reading.{◌>>=◌}
+use Rattle.bisync_opts.specs.declared.faults.UsageKind.{UsageKind}
+use Rattle.bisync_opts.specs.declared.faults.UsageKind.TheVariants as usage
+use Rattle.bisync_opts.specs.declared.options.Opts.{Opts}
+use Rattle.bisync_cli.specs.declared.tasks.Command.{Command}
+use Rattle.bisync_cli.specs.declared.tasks.Command.TheVariants.{Bisync, Demo, Check}
+use Rattle.bisync_cli.specs.declared.tasks.Task.{Task}
+use Rattle.bisync_cli.specs.declared.tasks.Task.TheVariants.{Run, NotBuilt}
+
+-- the command that a word names
+abbrev pub command_of : List ℕ → Option Command
+command_of = chosen ((codes "bisync", Bisync) ∷ (codes "demo", Demo) ∷ (codes "check", Check) ∷ [])
+
+-- this version makes a resync without options on folders, and no other run
+abbrev pub is_built : Opts → Bool
+is_built opts = is_some opts.resync && not (is_some opts.folders)
+
+-- the run of these options, where this version makes it
+abbrev pub task_of : Opts → Task
+task_of opts = if is_built opts then Run opts else NotBuilt
+
+-- what the words after `bisync` ask for, or their refusal
+abbrev pub run_in : List (List ℕ) → Result Task UsageKind
+run_in words = options_of words >>= λ opts. Ok (task_of opts)
+
+-- what the words after a command ask for
+abbrev pub task_behind : Option Command → List (List ℕ) → Result Task UsageKind
+task_behind None words = Err usage.Command
+task_behind (Some Bisync) words = run_in words
+task_behind (Some Demo) words = Ok NotBuilt
+task_behind (Some Check) words = Ok NotBuilt
+
+-- what the words ask for, or their refusal
+abbrev pub task_in : List (List ℕ) → Result Task UsageKind
+task_in [] = Err usage.Command
+task_in (first ∷ rest) = task_behind (command_of first) rest
+
+-- the options of a run are in their ranges
+abbrev pub IsTaskInRange : Task → Type 0
+IsTaskInRange (Run opts) = IsInRange opts
+IsTaskInRange NotBuilt = ⊤
+
+-- what is said of the run that words ask for, with its options
+abbrev pub OfRun : Result Task UsageKind → (Opts → Type 0) → Type 0
+OfRun (Ok (Run opts)) Says = Says opts
+OfRun (Ok NotBuilt) Says = ⊤
+OfRun (Err kind) Says = ⊤
+
+-- whether words that are read so ask for a run
+abbrev pub is_run : Result Task UsageKind → Bool
+is_run (Ok (Run opts)) = true
+is_run (Ok NotBuilt) = false
+is_run (Err kind) = false
+
+-- whether that run is resilient
+abbrev pub is_resilient_run : Result Task UsageKind → Bool
+is_resilient_run (Ok (Run opts)) = opts.resilient
+is_resilient_run (Ok NotBuilt) = false
+is_resilient_run (Err kind) = false
+
+abbrev pub asks_run : List (List ℕ) → Bool
+asks_run words = is_run (task_in words)
+
+abbrev pub is_resilient : List (List ℕ) → Bool
+is_resilient words = is_resilient_run (task_in words)

@@ -1,0 +1,93 @@
+//! What the words ask for.
+
+ghost use Rattle.std.specs.Prelude.{◌≡◌, IfOk};
+ghost use Rattle.bisync_cli.specs.Tasks.{IsTaskInRange, command_of, is_built, run_in, task_in, task_of};
+ghost use Rattle.bisync_opts.specs.Ranges.{IsInRange};
+ghost use Rattle.bisync_opts.specs.Reading.{IsReadAs};
+
+use bisync_opts::{OptFault, Opts, UsageKind, read_options};
+use bisync_text::Text;
+use std::alloc::Global;
+
+/// The commands, by the first word.
+#[derive(Clone, Copy, Debug, PartialEq, Eq)]
+pub enum Command {
+    /// `bisync`.
+    Bisync,
+    /// `demo`.
+    Demo,
+    /// `check`.
+    Check,
+}
+
+/// What the words ask for.
+#[derive(Drop)]
+pub enum Task {
+    /// A run with these options.
+    Run(Opts),
+    /// What this version doesn't do yet.
+    NotBuilt,
+}
+
+/// What the words ask for. They are refused where the first one names no command, and where those
+/// after `bisync` give no options.
+pub fn read_task(alloc: Global, words: &[Text]) -> Result<Task, OptFault>
+    ensures read { IsReadAs (task_in words.now) result }
+    ensures range { IfOk result IsTaskInRange }
+{
+    let Some((first, rest)) = words.split_first() else {
+        return Err(OptFault::Usage(UsageKind::Command));
+    };
+    match named_command(first) {
+        Some(Command::Bisync) => read_run(alloc, rest),
+        Some(Command::Demo | Command::Check) => Ok(Task::NotBuilt),
+        None => Err(OptFault::Usage(UsageKind::Command)),
+    }
+}
+
+/// The command that a word names.
+fn named_command(word: &Text) -> Option<Command>
+    ensures { result ≡ command_of word.now }
+{
+    let name = word.as_bytes();
+    if name == b"bisync".as_slice() {
+        Some(Command::Bisync)
+    } else if name == b"demo".as_slice() {
+        Some(Command::Demo)
+    } else if name == b"check".as_slice() {
+        Some(Command::Check)
+    } else {
+        None
+    }
+}
+
+/// What the words after `bisync` ask for.
+fn read_run(alloc: Global, words: &[Text]) -> Result<Task, OptFault>
+    ensures read { IsReadAs (run_in words.now) result }
+    ensures range { IfOk result IsTaskInRange }
+{
+    match read_options(alloc, words) {
+        Ok(opts) => Ok(task_for(opts)),
+        Err(fault) => Err(fault),
+    }
+}
+
+/// The run of these options, where this version makes it.
+fn task_for(opts: Opts) -> Task
+    requires { IsInRange opts }
+    ensures task { result ≡ task_of opts }
+    ensures range { IsTaskInRange result }
+{
+    if is_built(&opts) {
+        Task::Run(opts)
+    } else {
+        Task::NotBuilt
+    }
+}
+
+/// Whether this version makes such a run.
+fn is_built(opts: &Opts) -> bool
+    ensures { result ≡ is_built opts.now }
+{
+    opts.resync.is_some() && opts.folders.is_none()
+}
