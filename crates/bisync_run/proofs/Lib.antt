@@ -21,3 +21,4 @@ pub mod ClosedEnds
 pub mod ToldEnds
 pub mod EndKindLaws
 pub mod ClosedKinds
+pub mod ToldGrounds

@@ -11,7 +11,7 @@ ghost use Rattle.bisync_transfer.specs.StepTrees.{AreDone};
 ghost use Rattle.bisync_work.specs.Locks.{ChangesLock};
 ghost use Rattle.bisync_run.specs.Counts.{counts, HasCauses};
 ghost use Rattle.bisync_run.specs.LockNew.{KeepsLockNew};
-ghost use Rattle.bisync_run.specs.Stepping.{IsPartDone, FindsAll, IsStepEnd, IsDeviceFault, MovedDiffers, TellsStep, IsKept, path_of, end_of_step};
+ghost use Rattle.bisync_run.specs.Stepping.{IsPartDone, FindsAll, IsStepEnd, IsDeviceFault, MovedDiffers, MovedIsRead, TellsStep, IsKept, path_of, end_of_step};
 
 use bisync_device::{Clock, Failed, Remote, Work};
 use bisync_report::End;
@@ -55,6 +55,7 @@ pub fn do_steps<A: Remote, B: Remote, W: Work, C: Clock>(
     ensures end { IfErr result IsStepEnd }
     ensures found { IsTrue A.tells → IsTrue B.tells → FindsAll steps.items (by_side (A.state one.old) (B.state two.old)) → IfErr result IsDeviceFault }
     ensures moved { IfErr result MovedDiffers }
+    ensures read { IfErr result MovedIsRead }
     ensures told { IfErr result (TellsStep steps.items) }
     ensures lock { IsTrue W.tells → ChangesLock (W.state work.old).folder (W.state work.new).folder }
     ensures lock_new { IsTrue W.tells → (Rose (W.state work.old).faults (W.state work.new).faults → ⊥) → KeepsLockNew (W.state work.old).folder (W.state work.new).folder }

@@ -3,6 +3,7 @@ use Rattle.bisync_tree.specs.declared.sides.Side.TheVariants.{One, Two}
 use Rattle.bisync_model.specs.Trees.{by_side}
 use Rattle.bisync_run.proofs.EndCases.{device_answers, step_may_change}
 use Rattle.bisync_run.proofs.HeldLaws.{untouched, same_windows, are_within, aside_held, base_held, done_held, trees_held, finds_held, lines_held, numbers_held}
+use Rattle.bisync_run.proofs.ToldGrounds.{step_told}
 use Rattle.bisync_run.proofs.resyncs.resync.Goals as goal
 
 pub returns-in-Ok-carry_out-clause-base : goal.returns-in-Ok-carry_out-clause-base
@@ -114,6 +115,19 @@ returns-clause-answers g c one two work =
     let f2 = (g.W.Work.state c.look_resync.new.work).folder in
     device_answers c.args.mode c.args.limits.now f _ c.in-Err-carry_out.end
     (c.in-Err-carry_out.ensures.found one two (finds_held c.args.mode c.args.limits.now c.args.opts.now.compare c.args.entered.now.rules a b a2 b2 f f2 c.in-Ok.prepared (c.in-Ok.ensures.plan one two) looked windows (c.in-Ok.ensures.folder work)))
+
+pub returns-clause-told : goal.returns-clause-told
+returns-clause-told g c =
+    let a = g.A.Remote.state c.args.one.now in
+    let b = g.B.Remote.state c.args.two.now in
+    let a2 = g.A.Remote.state c.look_resync.new.one in
+    let b2 = g.B.Remote.state c.look_resync.new.two in
+    let windows = same_windows a b a2 b2 c.in-Ok.ensures.one.window c.in-Ok.ensures.two.window in
+    let f = (g.W.Work.state c.args.work.now).folder in
+    step_told (by_side g.A.Remote.tells g.B.Remote.tells) (by_side a b) c.in-Err-carry_out.end c.in-Err-carry_out.ensures.end c.in-Err-carry_out.ensures.read
+    (λ one two. c.in-Err-carry_out.ensures.found one two
+    (finds_held c.args.mode c.args.limits.now c.args.opts.now.compare c.args.entered.now.rules a b a2 b2 f f c.in-Ok.prepared (c.in-Ok.ensures.plan one two)
+    (untouched a b a2 b2 (c.in-Ok.ensures.one.tree one) (c.in-Ok.ensures.two.tree two)) windows refl))
 
 pub returns-clause-report : goal.returns-clause-report
 returns-clause-report g c one two sink =

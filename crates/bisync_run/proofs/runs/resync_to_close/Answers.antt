@@ -16,6 +16,7 @@ use Rattle.bisync_run.proofs.EndKindLaws.{unlocked_is_own, unlocked_not_after_go
 use Rattle.bisync_run.proofs.LockNewLaws.{lock_new_twice, lock_new_same}
 use Rattle.bisync_run.proofs.LockedFolders.{base_past}
 use Rattle.bisync_run.proofs.RunEnds.{after_good_was_ok}
+use Rattle.bisync_run.proofs.ToldGrounds.{unlocked_told, closed_told}
 use Rattle.bisync_run.proofs.runs.resync_to_close.Goals as goal
 
 pub returns-in-Err-clause-base : goal.returns-in-Err-clause-base
@@ -58,6 +59,9 @@ returns-in-Err-clause-lock_new g c work never =
 
 pub returns-in-Err-clause-no_digest : goal.returns-in-Err-clause-no_digest
 returns-in-Err-clause-no_digest g c work none = ap (λ (w : WorkFolder). w.filters_md5) (c.in-Err.ensures.others work).rest
+
+pub returns-in-Err-clause-told : goal.returns-in-Err-clause-told
+returns-in-Err-clause-told g c = unlocked_told (by_side g.A.Remote.tells g.B.Remote.tells) (by_side (g.A.Remote.state c.args.one.now) (g.B.Remote.state c.args.two.now)) c.args.opts.now.filters c.in-Err.end c.in-Err.ensures.kind
 
 pub returns-in-Err-clause-lines : goal.returns-in-Err-clause-lines
 returns-in-Err-clause-lines g c sink = ([], sym (append-nil (g.S.Sink.state c.args.sink.now).bytes))
@@ -224,6 +228,9 @@ returns-clause-no_digest g c work none =
     let mid = (g.W.Work.state c.resync-ended.new.work).folder in
     let h = (g.W.Work.state c.close.new.work).folder in
     no_digest_closed c.args.opts.now.filters c.in-Ok.entered.rules c.in-Ok.entered.digest f f2 mid h (c.in-Ok.ensures.rules work) none (c.in-Ok.ensures.others work) (c.resync-ended.ensures.no_digest work) (c.close.ensures.closes work)
+
+pub returns-clause-told : goal.returns-clause-told
+returns-clause-told g c = closed_told (by_side g.A.Remote.tells g.B.Remote.tells) (by_side (g.A.Remote.state c.args.one.now) (g.B.Remote.state c.args.two.now)) c.resync-ended.result c.close.result c.close.ensures.end c.resync-ended.ensures.told
 
 pub returns-clause-quiet : goal.returns-clause-quiet
 returns-clause-quiet g c sink never quiet = c.resync-ended.ensures.quiet sink never (quiet_closed c.resync-ended.result c.close.result c.close.ensures.end quiet)

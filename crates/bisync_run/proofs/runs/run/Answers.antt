@@ -9,6 +9,7 @@ use Rattle.bisync_run.proofs.ClosedEnds.{tells_last}
 use Rattle.bisync_run.proofs.ClosedKinds.{no_rise_first, own_told, early_told, fell_told, freed_told}
 use Rattle.bisync_run.proofs.EndLaws.{no_rise_since}
 use Rattle.bisync_run.proofs.ToldEnds.{some_same, after_good_told, good_told, told_same, answers_told, images}
+use Rattle.bisync_run.proofs.ToldGrounds.{last_told}
 use Rattle.bisync_run.proofs.runs.run.Goals as goal
 
 pub returns-clause-answers : goal.returns-clause-answers
@@ -107,6 +108,9 @@ returns-clause-lock_new g c work never = c.resync_to_close-end.ensures.lock_new 
 
 pub returns-clause-no_digest : goal.returns-clause-no_digest
 returns-clause-no_digest g c work none = c.resync_to_close-end.ensures.no_digest work none
+
+pub returns-clause-told : goal.returns-clause-told
+returns-clause-told g c = last_told (by_side g.A.Remote.tells g.B.Remote.tells) (by_side (g.A.Remote.state c.args.one.now) (g.B.Remote.state c.args.two.now)) c.resync_to_close-end.result c.tell_end-2.result c.tell_end-2.ensures.end c.resync_to_close-end.ensures.told
 
 pub returns-clause-quiet : goal.returns-clause-quiet
 returns-clause-quiet g c sink never quiet =

@@ -1,9 +1,9 @@
 use Rattle.std.proofs.Common.{Ok, Err, ℕ, refl, sym, ◌∙◌, subst}
 use Rattle.bisync_device.specs.Faults.{Rose}
 use Rattle.bisync_tree.specs.declared.sides.Side.TheVariants.{One, Two}
-use Rattle.bisync_run.specs.Stepping.{IsDeviceFault, MovedDiffers}
+use Rattle.bisync_run.specs.Stepping.{IsDeviceFault, MovedDiffers, MovedIsRead}
 use Rattle.bisync_run.proofs.LockNewLaws.{lock_new_twice, kept_lock_new}
-use Rattle.bisync_run.proofs.StepEnds.{found_end, moved_differs}
+use Rattle.bisync_run.proofs.StepEnds.{found_end, moved_differs, moved_is_read}
 use Rattle.bisync_run.proofs.StepsDone.{part_now, done_now, both, going_next, keeping_next, fewer_left, none_left, split_here, part_end, causes_end, causes_lock, causes_none}
 use Rattle.bisync_run.proofs.steps.do_steps.Goals as goal
 
@@ -45,6 +45,9 @@ returns-in-Err-perform-clause-found g c = λ one two all.
 
 pub returns-in-Err-perform-clause-moved : goal.returns-in-Err-perform-clause-moved
 returns-in-Err-perform-clause-moved g c = subst MovedDiffers (sym c.end_of.ensures) (moved_differs _ c.in-Some.step _ c.in-Err-perform.fault c.in-Err-perform.ensures.moved)
+
+pub returns-in-Err-perform-clause-read : goal.returns-in-Err-perform-clause-read
+returns-in-Err-perform-clause-read g c = subst MovedIsRead (sym c.end_of.ensures) (moved_is_read _ c.in-Some.step _ c.in-Err-perform.fault c.in-Err-perform.ensures.moved)
 
 pub returns-in-Err-perform-clause-windows : goal.returns-in-Err-perform-clause-windows
 returns-in-Err-perform-clause-windows g c =
