@@ -11,7 +11,7 @@ use Rattle.bisync_work.specs.Moves.{but_fallen, moved_over}
 use Rattle.bisync_run.specs.CarryingOut.{AreSetAside}
 use Rattle.bisync_run.specs.Closing.{ClosesWith, Closes, EndsWith, Unlocks, but_fallen_or_lock}
 use Rattle.bisync_run.specs.Counts.{Counts, Stops}
-use Rattle.bisync_run.specs.EndKinds.{is_good, has_freed, lets_fall, falls_at_close, may_have_changed, may_tell_plan}
+use Rattle.bisync_run.specs.EndKinds.{is_good, has_freed, is_unlocked, lets_fall, falls_at_close, may_have_changed, may_tell_plan}
 use Rattle.bisync_run.specs.FilterRules.{AreRulesOf}
 use Rattle.bisync_run.specs.HeldResyncs.{end_of}
 use Rattle.bisync_run.specs.LockNew.{KeepsLockNew}
@@ -53,6 +53,11 @@ pub own_closed : (opts : Opts) (ended : Result End End) (closed : End) → Close
 own_closed opts (Ok end) closed (inl same) own = subst (IsResyncEnd opts) (sym same) own
 own_closed opts (Ok end) closed (inr left) own = subst (IsResyncEnd opts) (sym left) tt
 own_closed opts (Err end) closed same own = subst (IsResyncEnd opts) (sym same) own
+
+pub locked_closed : (ended : Result End End) (closed : End) → ClosesWith ended closed → is_unlocked (end_of ended) ≡ false → is_unlocked closed ≡ true → ⊥
+locked_closed (Ok end) closed (inl same) locked un = false_true (sym locked ∙ ap is_unlocked (sym same) ∙ un)
+locked_closed (Ok end) closed (inr left) locked un = false_true (sym (ap is_unlocked left) ∙ un)
+locked_closed (Err end) closed same locked un = false_true (sym locked ∙ ap is_unlocked (sym same) ∙ un)
 
 -- a lock that was removed in any case was removed after a good end
 pub freed_was_good : (old mid : Counts) (ended : Result End End) (closed : End) → IfOk ended (λ end. is_good end ≡ true) → IfErr ended (Stops old mid) → ClosesWith ended closed → has_freed closed ≡ true
@@ -116,3 +121,7 @@ fell_told resilient dry_run end last (inr lost) fell = false_true (sym (ap (lets
 pub freed_told : (end last : End) → EndsWith end last → has_freed last ≡ true → has_freed end ≡ true
 freed_told end last (inl same) freed = ap has_freed (sym same) ∙ freed
 freed_told end last (inr lost) freed = good_has_freed end lost.0
+
+pub unlocked_told : (end last : End) → EndsWith end last → is_unlocked last ≡ true → last ≡ end
+unlocked_told end last (inl same) un = same
+unlocked_told end last (inr lost) un = false_true (sym (ap is_unlocked lost.1) ∙ un)

@@ -11,8 +11,8 @@ ghost use Rattle.bisync_report.specs.LastLine.{last_text};
 ghost use Rattle.bisync_work.specs.Locks.{ChangesLock};
 ghost use Rattle.bisync_run.specs.Closing.{HasNoListings, but_fallen_or_lock};
 ghost use Rattle.bisync_run.specs.Counts.{counts, Later, Ends};
-ghost use Rattle.bisync_run.specs.EndKinds.{is_good, is_after_good, has_freed, lets_fall, may_have_changed, may_tell_plan};
-ghost use Rattle.bisync_run.specs.Entering.{IsHeldBack};
+ghost use Rattle.bisync_run.specs.EndKinds.{is_good, is_after_good, has_freed, is_unlocked, lets_fall, may_have_changed, may_tell_plan};
+ghost use Rattle.bisync_run.specs.Entering.{IsEntryEndWhere, IsHeldBack};
 ghost use Rattle.bisync_run.specs.Grounds.{HasGrounds, IsTold};
 ghost use Rattle.bisync_run.specs.LockNew.{KeepsLockNew};
 ghost use Rattle.bisync_run.specs.ResyncEnds.{IsResyncEnd};
@@ -67,6 +67,7 @@ fn resync_to_close<A: Remote, B: Remote, W: Work, C: Clock, S: Sink>(
     ensures freed { IsTrue W.tells → has_freed result ≡ true → (W.state work.new).folder.lock ≡ Absent }
     ensures lock_new { IsTrue W.tells → (Rose (W.state work.old).faults (W.state work.new).faults → ⊥) → KeepsLockNew (W.state work.old).folder (W.state work.new).folder }
     ensures no_digest { IsTrue W.tells → opts.now.filters ≡ None → (W.state work.new).folder.filters_md5 ≡ (W.state work.old).folder.filters_md5 }
+    ensures entry { IsTrue W.tells → is_unlocked result ≡ true → IsEntryEndWhere opts.now.filters (W.state work.old).folder C.tells (C.moment clock.old) result }
     ensures held_back { IsTrue C.tells → IsHeldBack (C.moment clock.old) result }
     ensures grounds { HasGrounds limits.now (by_side A.tells B.tells) result }
     ensures told { IsTold (by_side A.tells B.tells) (by_side (A.state one.old) (B.state two.old)) result }
@@ -133,6 +134,7 @@ pub fn run<A: Remote, B: Remote, W: Work, C: Clock, S: Sink>(
     ensures freed { IsTrue W.tells → has_freed result ≡ true → (W.state work.new).folder.lock ≡ Absent }
     ensures lock_new { IsTrue W.tells → (Rose (W.state work.old).faults (W.state work.new).faults → ⊥) → KeepsLockNew (W.state work.old).folder (W.state work.new).folder }
     ensures no_digest { IsTrue W.tells → opts.now.filters ≡ None → (W.state work.new).folder.filters_md5 ≡ (W.state work.old).folder.filters_md5 }
+    ensures entry { IsTrue W.tells → is_unlocked result ≡ true → IsEntryEndWhere opts.now.filters (W.state work.old).folder C.tells (C.moment clock.old) result }
     ensures held_back { IsTrue C.tells → IsHeldBack (C.moment clock.old) result }
     ensures grounds { HasGrounds limits.now (by_side A.tells B.tells) result }
     ensures told { IsTold (by_side A.tells B.tells) (by_side (A.state one.old) (B.state two.old)) result }

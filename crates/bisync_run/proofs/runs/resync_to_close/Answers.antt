@@ -10,7 +10,7 @@ use Rattle.bisync_run.specs.Sides.{sides_of}
 use Rattle.bisync_run.proofs.AnswersBefore.{none_before, answers_before}
 use Rattle.bisync_run.proofs.Closed.{base_closed, base_unlocked, done_closed, done_unlocked}
 use Rattle.bisync_run.proofs.ClosedEnds.{on_ok, falls_ok, falls_dry, changes_closed, early_closed, answers_closed, numbers_closed, tells_closed}
-use Rattle.bisync_run.proofs.ClosedKinds.{no_rise_last, no_rise_mid, falls_closed, fell_closed, quiet_closed, own_closed, freed_was_good, fallen_same, fallen_closed, lock_new_closed, no_digest_closed, aside_closed}
+use Rattle.bisync_run.proofs.ClosedKinds.{no_rise_last, no_rise_mid, falls_closed, fell_closed, quiet_closed, own_closed, locked_closed, freed_was_good, fallen_same, fallen_closed, lock_new_closed, no_digest_closed, aside_closed}
 use Rattle.bisync_run.proofs.DoneSteps.{untouched_same}
 use Rattle.bisync_run.proofs.EndKindLaws.{unlocked_is_own, unlocked_not_after_good, unlocked_fell, freed_is_after_good}
 use Rattle.bisync_run.proofs.LockNewLaws.{lock_new_twice, lock_new_same}
@@ -59,6 +59,9 @@ returns-in-Err-clause-lock_new g c work never =
 
 pub returns-in-Err-clause-no_digest : goal.returns-in-Err-clause-no_digest
 returns-in-Err-clause-no_digest g c work none = ap (λ (w : WorkFolder). w.filters_md5) (c.in-Err.ensures.others work).rest
+
+pub returns-in-Err-clause-entry : goal.returns-in-Err-clause-entry
+returns-in-Err-clause-entry g c work un = c.in-Err.ensures.entry work
 
 pub returns-in-Err-clause-told : goal.returns-in-Err-clause-told
 returns-in-Err-clause-told g c = unlocked_told (by_side g.A.Remote.tells g.B.Remote.tells) (by_side (g.A.Remote.state c.args.one.now) (g.B.Remote.state c.args.two.now)) c.args.opts.now.filters c.in-Err.end c.in-Err.ensures.kind
@@ -228,6 +231,9 @@ returns-clause-no_digest g c work none =
     let mid = (g.W.Work.state c.resync-ended.new.work).folder in
     let h = (g.W.Work.state c.close.new.work).folder in
     no_digest_closed c.args.opts.now.filters c.in-Ok.entered.rules c.in-Ok.entered.digest f f2 mid h (c.in-Ok.ensures.rules work) none (c.in-Ok.ensures.others work) (c.resync-ended.ensures.no_digest work) (c.close.ensures.closes work)
+
+pub returns-clause-entry : goal.returns-clause-entry
+returns-clause-entry g c work un = absurd (locked_closed c.resync-ended.result c.close.result c.close.ensures.end c.resync-ended.ensures.only un)
 
 pub returns-clause-told : goal.returns-clause-told
 returns-clause-told g c = closed_told (by_side g.A.Remote.tells g.B.Remote.tells) (by_side (g.A.Remote.state c.args.one.now) (g.B.Remote.state c.args.two.now)) c.resync-ended.result c.close.result c.close.ensures.end c.resync-ended.ensures.told

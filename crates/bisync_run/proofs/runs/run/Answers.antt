@@ -3,10 +3,11 @@ use Rattle.bisync_tree.specs.declared.options.Prefer.{Prefer}
 use Rattle.bisync_model.specs.Trees.{by_side}
 use Rattle.bisync_report.specs.LastLine.{last_text}
 use Rattle.bisync_report.specs.declared.ends.End.{End}
-use Rattle.bisync_run.specs.EndKinds.{is_good, lets_fall, may_have_changed, may_tell_plan}
+use Rattle.bisync_run.specs.EndKinds.{is_good, is_unlocked, lets_fall, may_have_changed, may_tell_plan}
+use Rattle.bisync_run.specs.Entering.{IsEntryEndWhere}
 use Rattle.bisync_run.specs.ResyncRuns.{AnswersRun, HasNoRefusal, IsResyncedBy, HasNumbers, LeavesBaseOf, LeavesTreesOf, TellsRun}
 use Rattle.bisync_run.proofs.ClosedEnds.{tells_last}
-use Rattle.bisync_run.proofs.ClosedKinds.{no_rise_first, own_told, early_told, fell_told, freed_told}
+use Rattle.bisync_run.proofs.ClosedKinds.{no_rise_first, own_told, early_told, fell_told, freed_told, unlocked_told}
 use Rattle.bisync_run.proofs.EndLaws.{no_rise_since}
 use Rattle.bisync_run.proofs.ToldEnds.{some_same, after_good_told, good_told, told_same, answers_told, images}
 use Rattle.bisync_run.proofs.ToldGrounds.{last_told}
@@ -108,6 +109,12 @@ returns-clause-lock_new g c work never = c.resync_to_close-end.ensures.lock_new 
 
 pub returns-clause-no_digest : goal.returns-clause-no_digest
 returns-clause-no_digest g c work none = c.resync_to_close-end.ensures.no_digest work none
+
+pub returns-clause-entry : goal.returns-clause-entry
+returns-clause-entry g c work un =
+    let told = unlocked_told c.resync_to_close-end.result c.tell_end-2.result c.tell_end-2.ensures.end un in
+    subst (λ (e : End). IsEntryEndWhere c.args.opts.now.filters (g.W.Work.state c.args.work.now).folder g.C.Clock.tells (g.C.Clock.moment c.args.clock.now) e) (sym told)
+    (c.resync_to_close-end.ensures.entry work (ap is_unlocked (sym told) ∙ un))
 
 pub returns-clause-told : goal.returns-clause-told
 returns-clause-told g c = last_told (by_side g.A.Remote.tells g.B.Remote.tells) (by_side (g.A.Remote.state c.args.one.now) (g.B.Remote.state c.args.two.now)) c.resync_to_close-end.result c.tell_end-2.result c.tell_end-2.ensures.end c.resync_to_close-end.ensures.told
