@@ -1,10 +1,10 @@
 -- Causes of ends, from the parts of a run to the whole.
-use Rattle.std.proofs.Common.{◌≡◌, ◌≤◌, ℕ, true, false, refl, ◌∙◌, arith}
+use Rattle.std.proofs.Common.{◌≡◌, ◌≤◌, ℕ, true, false, refl, ◌∙◌, ap, arith}
 use Rattle.bisync_device.specs.Faults.{Rose}
 use Rattle.bisync_tree.specs.declared.sides.Side.TheVariants.{One, Two}
 use Rattle.bisync_report.specs.declared.ends.End.{End}
 use Rattle.bisync_report.specs.declared.ends.End.TheVariants.{Done, Resynced, DryRun, InSync, Demo, Usage, WorkFault, NoFilters, BadRule, Locked, FiltersChanged, BadListing, NeedResync, ListingsDiffer, EmptyPrior, RemoteFault, BadPath, TooMany, CheckAccess, EmptyCurrent, TooManyDeletes, AllChanged, NameTooLong, ListingTooLong, OutOfSync, Moved, SinkFault, LockLeft, FoldersLeft, KeepFault, Checked, NotBuilt, OutOfMemory}
-use Rattle.bisync_run.specs.Counts.{Counts, Later, Stops, Ends}
+use Rattle.bisync_run.specs.Counts.{Counts, counts, Later, Stops, Ends}
 use Rattle.bisync_run.specs.EndKinds.{is_good, is_after_good}
 
 -- # Counts that rose
@@ -249,39 +249,40 @@ ends_good old new (Checked differ) good ends = absurd cc
 ends_good old new NotBuilt good ends = absurd cc
 ends_good old new OutOfMemory good ends = absurd cc
 
--- the cause of an end stays one, whatever fails later, where nothing fails after a good end
-pub ends_later : (old mid new : Counts) (end : End) → Ends old mid end → Later mid new → (is_good end ≡ true → new ≡ mid) → Ends old new end
-ends_later old mid new (Done one two) ends later kept = kept refl ∙ ends
-ends_later old mid new (Resynced one two) ends later kept = kept refl ∙ ends
-ends_later old mid new DryRun ends later kept = kept refl ∙ ends
-ends_later old mid new InSync ends later kept = kept refl ∙ ends
-ends_later old mid new Demo ends later kept = absurd ends
-ends_later old mid new (Usage kind) ends later kept = absurd ends
-ends_later old mid new WorkFault ends later kept = rose_within _ _ _ _ (le_same old.work) later.work ends
-ends_later old mid new NoFilters ends later kept = tt
-ends_later old mid new (BadRule line) ends later kept = tt
-ends_later old mid new (Locked until) ends later kept = tt
-ends_later old mid new (FiltersChanged now stored) ends later kept = tt
-ends_later old mid new (BadListing name line) ends later kept = tt
-ends_later old mid new (NeedResync need) ends later kept = tt
-ends_later old mid new (ListingsDiffer path one two) ends later kept = tt
-ends_later old mid new (EmptyPrior side) ends later kept = tt
-ends_later old mid new (RemoteFault One) ends later kept = rose_within _ _ _ _ (le_same old.one) later.one ends
-ends_later old mid new (RemoteFault Two) ends later kept = rose_within _ _ _ _ (le_same old.two) later.two ends
-ends_later old mid new (BadPath side text) ends later kept = tt
-ends_later old mid new (TooMany side files bytes) ends later kept = tt
-ends_later old mid new (CheckAccess side path) ends later kept = tt
-ends_later old mid new (EmptyCurrent side) ends later kept = tt
-ends_later old mid new (TooManyDeletes side gone all) ends later kept = tt
-ends_later old mid new (AllChanged side all) ends later kept = tt
-ends_later old mid new (NameTooLong side path) ends later kept = tt
-ends_later old mid new (ListingTooLong side bytes) ends later kept = tt
-ends_later old mid new (OutOfSync path one two) ends later kept = tt
-ends_later old mid new (Moved side path listed read) ends later kept = tt
-ends_later old mid new (SinkFault done) ends later kept = rose_within _ _ _ _ (le_same old.sink) later.sink ends
-ends_later old mid new LockLeft ends later kept = rose_within _ _ _ _ (le_same old.work) later.work ends
-ends_later old mid new (FoldersLeft cause) ends later kept = absurd ends
-ends_later old mid new (KeepFault side) ends later kept = absurd ends
-ends_later old mid new (Checked differ) ends later kept = absurd ends
-ends_later old mid new NotBuilt ends later kept = tt
-ends_later old mid new OutOfMemory ends later kept = tt
+-- the cause of an end stays one where the sink fails later, but not after a good end
+pub ends_told : (old : Counts) (a b w s s2 : ℕ) (end : End) → Ends old (counts a b w s) end → s ≤ s2 → (is_good end ≡ true → s2 ≡ s) → Ends old (counts a b w s2) end
+ends_told old a b w s s2 (Done one two) ends later kept = ap (counts a b w) (kept refl) ∙ ends
+ends_told old a b w s s2 (Resynced one two) ends later kept = ap (counts a b w) (kept refl) ∙ ends
+ends_told old a b w s s2 DryRun ends later kept = ap (counts a b w) (kept refl) ∙ ends
+ends_told old a b w s s2 InSync ends later kept = ap (counts a b w) (kept refl) ∙ ends
+ends_told old a b w s s2 Demo ends later kept = absurd ends
+ends_told old a b w s s2 (Usage kind) ends later kept = absurd ends
+ends_told old a b w s s2 WorkFault ends later kept = ends
+ends_told old a b w s s2 NoFilters ends later kept = tt
+ends_told old a b w s s2 (BadRule line) ends later kept = tt
+ends_told old a b w s s2 (Locked until) ends later kept = tt
+ends_told old a b w s s2 (FiltersChanged now stored) ends later kept = tt
+ends_told old a b w s s2 (BadListing name line) ends later kept = tt
+ends_told old a b w s s2 (NeedResync need) ends later kept = tt
+ends_told old a b w s s2 (ListingsDiffer path one two) ends later kept = tt
+ends_told old a b w s s2 (EmptyPrior side) ends later kept = tt
+ends_told old a b w s s2 (RemoteFault One) ends later kept = ends
+ends_told old a b w s s2 (RemoteFault Two) ends later kept = ends
+ends_told old a b w s s2 (BadPath side text) ends later kept = tt
+ends_told old a b w s s2 (TooMany side files bytes) ends later kept = tt
+ends_told old a b w s s2 (CheckAccess side path) ends later kept = tt
+ends_told old a b w s s2 (EmptyCurrent side) ends later kept = tt
+ends_told old a b w s s2 (TooManyDeletes side gone all) ends later kept = tt
+ends_told old a b w s s2 (AllChanged side all) ends later kept = tt
+ends_told old a b w s s2 (NameTooLong side path) ends later kept = tt
+ends_told old a b w s s2 (ListingTooLong side bytes) ends later kept = tt
+ends_told old a b w s s2 (OutOfSync path one two) ends later kept = tt
+ends_told old a b w s s2 (Moved side path listed read) ends later kept = tt
+ends_told old a b w s s2 (SinkFault false) ends later kept = rose_within _ _ _ _ (le_same old.sink) later ends
+ends_told old a b w s s2 (SinkFault true) ends later kept = (rose_within _ _ _ _ (le_same old.sink) later ends.0, ends.1, ends.2, ends.3)
+ends_told old a b w s s2 LockLeft ends later kept = ends
+ends_told old a b w s s2 (FoldersLeft cause) ends later kept = absurd ends
+ends_told old a b w s s2 (KeepFault side) ends later kept = absurd ends
+ends_told old a b w s s2 (Checked differ) ends later kept = absurd ends
+ends_told old a b w s s2 NotBuilt ends later kept = tt
+ends_told old a b w s s2 OutOfMemory ends later kept = tt

@@ -21,7 +21,7 @@ use Rattle.bisync_work.specs.declared.bases.Pair.TheVariants.{Current}
 use Rattle.bisync_work.specs.Moves.{moved_over}
 use Rattle.bisync_work.specs.Stamps.{IsNewStamp}
 use Rattle.bisync_report.specs.Lines.{steps_text}
-use Rattle.bisync_run.specs.CarryingOut.{AreWithin, LeavesOneBase, AreCarriedOut, but_carried}
+use Rattle.bisync_run.specs.CarryingOut.{AreWithin, LeavesOneBase, AreCarriedOut, AreSetAside, but_carried}
 use Rattle.bisync_run.specs.ResyncRefusals.{HasNoResyncRefusal}
 use Rattle.bisync_run.specs.Resyncs.{IsMadeAnew, IsResynced, LeavesBase, LeavesTrees, resync_changes, resync_lines}
 use Rattle.bisync_run.specs.ResyncWriting.{next_base, stored}
@@ -48,6 +48,18 @@ pub are_within : (limits : Limits) (prepared : Prepared)
     → length (listing_text (header_of prepared.stamp prepared.compare) prepared.plan.final2) ≤ most limits.listing
     → AreWithin limits.listing prepared
 are_within limits prepared one two = record { one = within _ limits.listing one; two = within _ limits.listing two }
+
+-- the names besides the base, on a folder that was only looked at before
+pub aside_held : (limit : ℕ) (prepared : Prepared) (digest : Option (List ℕ)) (f f2 g : WorkFolder) → f2 ≡ f → AreCarriedOut limit prepared digest f2 g → AreSetAside digest f g
+aside_held limit prepared digest f f2 g same out = record {
+  one_old = out.one_old;
+  two_old = out.two_old;
+  one_new = out.one_new;
+  two_new = out.two_new;
+  one_err = out.one_err ∙ ap (λ (w : WorkFolder). moved_over w.one (moved_over w.one_old w.one_err)) same;
+  two_err = out.two_err ∙ ap (λ (w : WorkFolder). moved_over w.two (moved_over w.two_old w.two_err)) same;
+  stored = out.stored ∙ ap (λ (w : WorkFolder). stored digest w.filters_md5) same;
+}
 
 module _ (mode : Prefer) (limits : Limits) (compare : Compare) (rules : List Rule) (a b a2 b2 : RemoteState) (f f2 : WorkFolder) (prepared : Prepared)
     (plan : IsResyncOf (resync_known mode (sides_of compare rules a b)) (resync_paths (sides_of compare rules a b)) prepared.plan)

@@ -15,6 +15,10 @@ pub mod EndCases
 pub mod HeldLaws
 pub mod LockTimes
 pub mod StepEnds
+pub mod LockNewLaws
 pub mod StepsDone
 pub mod ClosedEnds
 pub mod ToldEnds
+pub mod EndKindLaws
+pub mod ClosedKinds
+pub mod ToldGrounds

@@ -28,6 +28,7 @@ use Rattle.bisync_report.specs.declared.ends.End.{End}
 use Rattle.bisync_run.specs.Sides.{Sides, IsListable, resync_known, resync_paths, listed1, listed2}
 use Rattle.bisync_run.specs.Looking.{unplanned_end}
 use Rattle.bisync_run.specs.Grounds.{HasGrounds}
+use Rattle.bisync_run.specs.ResyncEnds.{IsUnplannedEnd}
 use Rattle.bisync_run.specs.ResyncRefusals.{HasNoResyncRefusal, AnswersResync}
 
 -- names that are those of a tree and within the limits
@@ -97,5 +98,14 @@ no_plan_grounds known header limits tells fault end is why = subst (λ (e : End)
     go : (x : PlanFault) → IsResyncFault known header limits.listing x → HasGrounds limits tells (unplanned_end x)
     go (unplanned.TooLong side path) h = absurd h
     go (unplanned.ListingTooLong side bytes) h = over_most limits.listing h.size bytes h.over h.number_is
+    go (unplanned.OutOfSync path a b) h = absurd h
+    go unplanned.OutOfMemory h = tt
+
+pub no_plan_kind : (known : Known) (header : Header) (limit : ℕ) (fault : PlanFault) (end : End) → end ≡ unplanned_end fault → IsResyncFault known header limit fault → IsUnplannedEnd end
+no_plan_kind known header limit fault end is why = subst IsUnplannedEnd (sym is) (go fault why)
+  where
+    go : (x : PlanFault) → IsResyncFault known header limit x → IsUnplannedEnd (unplanned_end x)
+    go (unplanned.TooLong side path) h = absurd h
+    go (unplanned.ListingTooLong side bytes) h = tt
     go (unplanned.OutOfSync path a b) h = absurd h
     go unplanned.OutOfMemory h = tt

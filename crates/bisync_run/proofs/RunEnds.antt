@@ -7,7 +7,7 @@ use Rattle.bisync_report.specs.declared.ends.End.TheVariants.{SinkFault}
 use Rattle.bisync_run.specs.Counts.{Counts, counts, Later, Stops, HasCauses, Ends}
 use Rattle.bisync_run.specs.EndKinds.{is_good, is_after_good}
 use Rattle.bisync_run.specs.Closing.{ClosesWith, CountsClose, EndsWith}
-use Rattle.bisync_run.proofs.EndLaws.{rose_within, rose_since, le_same, stops_later, stops_ends, stops_not_good, stops_not_after_good, good_ends, ends_good, ends_later}
+use Rattle.bisync_run.proofs.EndLaws.{rose_within, rose_since, le_same, stops_later, stops_ends, stops_not_good, stops_not_after_good, good_ends, ends_good, ends_told}
 
 -- what a close answers has its cause, where what it closed has
 pub closed_ends : (old : Counts) (a b w s w2 : ℕ) (ended : Result End End) (closed : End) → IfOk ended (λ end. is_good end ≡ true) → HasCauses old (counts a b w s) ended
@@ -15,22 +15,22 @@ pub closed_ends : (old : Counts) (a b w s w2 : ℕ) (ended : Result End End) (cl
 closed_ends old a b w s w2 (Ok end) closed good causes is (inl stays) =
     subst (Ends old (counts a b w2 s)) (sym stays.0) (good_ends old (counts a b w2 s) end good (ap (λ (x : ℕ). counts a b x s) stays.1 ∙ causes.good refl))
 closed_ends old a b w s w2 (Ok end) closed good causes is (inr left) =
-    subst (Ends old (counts a b w2 s)) (sym left.0) (rose_within _ _ _ _ causes.later.work (le_same w2) left.1)
+    let stays = causes.good refl in
+    subst (Ends old (counts a b w2 s)) (sym left.0) (rose_within _ _ _ _ causes.later.work (le_same w2) left.1, ap Counts.one stays, ap Counts.two stays)
 closed_ends old a b w s w2 (Err end) closed good causes is more =
     let later : Later (counts a b w s) (counts a b w2 s) = record { one = le_same a; two = le_same b; work = more; sink = le_same s } in
     subst (Ends old (counts a b w2 s)) (sym is) (stops_ends old (counts a b w2 s) end (stops_later old (counts a b w s) (counts a b w2 s) end causes.fault later))
 
 module _ (old : Counts) (a b w s s2 : ℕ) (closed last : End) (ends : Ends old (counts a b w s) closed) (later : s ≤ s2) where
   told_same : (is_good last ≡ true → s2 ≡ s) → last ≡ closed → Ends old (counts a b w s2) last
-  told_same kept same =
-      let more : Later (counts a b w s) (counts a b w s2) = record { one = le_same a; two = le_same b; work = le_same w; sink = later } in
-      ends_later old (counts a b w s) (counts a b w s2) last (subst (Ends old (counts a b w s)) (sym same) ends) more (λ good. ap (counts a b w) (kept good))
+  told_same kept same = ends_told old a b w s s2 last (subst (Ends old (counts a b w s)) (sym same) ends) later kept
 
   told_lost : is_good closed ≡ true → last ≡ SinkFault true → (last ≡ closed) ⊎ Rose s s2 → Ends old (counts a b w s2) last
   told_lost good lost (inl same) = let unlike : is_good closed ≡ false = ap is_good (sym same ∙ lost) in absurd cc
   told_lost good lost (inr rose) =
-      let start : Counts.sink old ≤ s = omega (arith, ap Counts.sink (ends_good old (counts a b w s) closed good ends)) in
-      subst (Ends old (counts a b w s2)) (sym lost) (rose_since _ _ _ rose start)
+      let stays = ends_good old (counts a b w s) closed good ends in
+      let start : Counts.sink old ≤ s = omega (arith, ap Counts.sink stays) in
+      subst (Ends old (counts a b w s2)) (sym lost) (rose_since _ _ _ rose start, ap Counts.one stays, ap Counts.two stays, ap Counts.work stays)
 
   -- what a run tells has its cause, where the end before its last line has
   pub told_ends : EndsWith closed last → (is_good last ≡ true → s2 ≡ s) → (is_good closed ≡ true → (last ≡ closed) ⊎ Rose s s2) → Ends old (counts a b w s2) last

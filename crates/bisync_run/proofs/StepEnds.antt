@@ -14,8 +14,8 @@ use Rattle.bisync_transfer.specs.StepTrees.{AreDone, trees_in, windows_in}
 use Rattle.bisync_transfer.specs.declared.steps.StepFault.{StepFault}
 use Rattle.bisync_transfer.specs.declared.steps.StepFault.TheVariants as fault
 use Rattle.bisync_transfer.proofs.FoundFiles.{found_in}
-use Rattle.bisync_run.specs.Grounds.{IsOther}
-use Rattle.bisync_run.specs.Stepping.{FindsAll, IsStepEnd, IsDeviceFault, MovedDiffers, TellsStep, end_of_step}
+use Rattle.bisync_run.specs.Grounds.{IsOther, IsReadAs}
+use Rattle.bisync_run.specs.Stepping.{FindsAll, IsStepEnd, IsDeviceFault, MovedDiffers, MovedIsRead, TellsStep, end_of_step}
 
 both_tell : (one two : Bool) → IsTrue one → IsTrue two → (side : Side) → IsTrue (by_side one two side)
 both_tell one two a b One = a
@@ -52,6 +52,17 @@ pub moved_differs : (tells : Side → Bool) (step : Step) (now : Side → Remote
 moved_differs tells step now (fault.RemoteFault side) is = tt
 moved_differs tells step now (fault.Moved side listed read) is =
     subst (λ (e : Entry). IsOther e read) (sym is.1) (other_read (tells side) step (now side) read is.2)
+
+read_as : (tells : Bool) (step : Step) (source : RemoteState) (read : Option Entry) → IsReadOf tells step source read → IsReadAs (listed_of step) read
+read_as tells (Copy from path listed) source None is = tt
+read_as tells (Copy from path listed) source (Some read) is = (is.bytes, is.entry)
+read_as tells (Rename side from to listed) source read is = subst (IsReadAs listed) (sym is.0) tt
+read_as tells (Delete side path listed) source read is = subst (IsReadAs listed) (sym is.0) tt
+
+pub moved_is_read : (tells : Side → Bool) (step : Step) (now : Side → RemoteState) (answer : StepFault) → TellsMoved tells step now (Err answer) → MovedIsRead (end_of_step step answer)
+moved_is_read tells step now (fault.RemoteFault side) is = tt
+moved_is_read tells step now (fault.Moved side listed read) is =
+    subst (λ (e : Entry). IsReadAs e read) (sym is.1) (read_as (tells side) step (now side) read is.2)
 
 pub tells_step : (tells : Side → Bool) (steps done later : List Step) (step : Step) (now : Side → RemoteState) (answer : StepFault)
     → steps ≡ done ++ step ∷ later → TellsMoved tells step now (Err answer) → TellsStep steps (end_of_step step answer)

@@ -19,7 +19,9 @@ use Rattle.bisync_work.specs.Locks.{ChangesLock}
 use Rattle.bisync_report.specs.declared.ends.End.{End}
 use Rattle.bisync_report.specs.declared.ends.End.TheVariants.{WorkFault}
 use Rattle.bisync_run.specs.Counts.{counts, Stops, HasCauses}
+use Rattle.bisync_run.specs.LockNew.{KeepsLockNew}
 use Rattle.bisync_run.specs.Stepping.{IsPartDone, end_of_step}
+use Rattle.bisync_run.proofs.LockNewLaws.{lock_new_twice}
 
 -- the first of the steps are done, the others are left, and no call of a remote failed
 pub record Going (one two : Bool) (steps left : List Step) (start now : Side → RemoteState) : Type 0 where
@@ -33,6 +35,7 @@ pub record Going (one two : Bool) (steps left : List Step) (start now : Side →
 -- only the lock changed in the work folder, and no call of it failed
 pub record Keeping (tells : Bool) (start now : WorkState) : Type 0 where
   pub lock : IsTrue tells → ChangesLock start.folder now.folder
+  pub lock_new : IsTrue tells → KeepsLockNew start.folder now.folder
   pub unstopped : start.left ≡ None → now.left ≡ None
   pub faults : now.faults ≡ start.faults
 
@@ -51,12 +54,13 @@ pub lock_twice : {f g h : WorkFolder} → ChangesLock f g → ChangesLock g h �
 lock_twice a b = record { rest = b.rest ∙ a.rest }
 
 pub keeping_first : (tells : Bool) (start : WorkState) → Keeping tells start start
-keeping_first tells start = record { lock = λ t. record { rest = refl }; unstopped = λ n. n; faults = refl }
+keeping_first tells start = record { lock = λ t. record { rest = refl }; lock_new = λ t. record { kept = inl refl }; unstopped = λ n. n; faults = refl }
 
 pub keeping_next : (tells : Bool) (start before after : WorkState) → Keeping tells start before
-    → (IsTrue tells → ChangesLock before.folder after.folder) → (before.left ≡ None → after.left ≡ None) → HasCause false before.faults after.faults → Keeping tells start after
-keeping_next tells start before after k lock left cause = record {
+    → (IsTrue tells → ChangesLock before.folder after.folder) → (IsTrue tells → KeepsLockNew before.folder after.folder) → (before.left ≡ None → after.left ≡ None) → HasCause false before.faults after.faults → Keeping tells start after
+keeping_next tells start before after k lock lock_new left cause = record {
   lock = λ t. lock_twice (k.lock t) (lock t);
+  lock_new = λ t. lock_new_twice (k.lock_new t) (lock_new t);
   unstopped = λ n. left (k.unstopped n);
   faults = cause.kept refl ∙ k.faults;
 }

@@ -1,5 +1,5 @@
 -- What is known of the end of a run once the last line was told.
-use Rattle.std.proofs.Common.{◌≡◌, ◌⊎◌, ◌∙◌, ap, subst, sym, inl, inr, ⊎_elim, true, ℕ, ℤ, Option, Some, None}
+use Rattle.std.proofs.Common.{◌≡◌, ◌⊎◌, ◌∙◌, ap, subst, sym, inl, inr, ⊎_elim, Bool, true, ℕ, ℤ, Option, Some, None}
 use Rattle.std.specs.Option.{unwrap_or}
 use Rattle.bisync_tree.specs.declared.options.Limits.{Limits}
 use Rattle.bisync_tree.specs.declared.options.Prefer.{Prefer}
@@ -32,13 +32,13 @@ pub told_same : (end last : End) (before after : ℕ) → EndsWith end last → 
 told_same end last before after (inl same) failed never = same
 told_same end last before after (inr (was_good, is)) failed never = ⊎_elim (λ same. same) (λ rose. absurd (never rose)) (failed was_good)
 
-pub answers_told : (mode : Prefer) (opts : Opts) (limits : Limits) (f : WorkFolder) (start : Remotes) (moment : ℤ) (end last : End)
-    → AnswersRun mode opts limits f start moment end → (is_after_good end ≡ true → HasNoRefusal mode opts limits f start moment) → EndsWith end last
-    → AnswersRun mode opts limits f start moment last
-answers_told mode opts limits f start moment end last answers accepted (inl same) = subst (AnswersRun mode opts limits f start moment) (sym same) answers
-answers_told mode opts limits f start moment end last answers accepted (inr (good, failed)) =
+pub answers_told : (mode : Prefer) (opts : Opts) (limits : Limits) (f : WorkFolder) (start : Remotes) (clock : Bool) (moment : ℤ) (end last : End)
+    → AnswersRun mode opts limits f start clock moment end → (is_after_good end ≡ true → HasNoRefusal mode opts limits f start clock moment) → EndsWith end last
+    → AnswersRun mode opts limits f start clock moment last
+answers_told mode opts limits f start clock moment end last answers accepted (inl same) = subst (AnswersRun mode opts limits f start clock moment) (sym same) answers
+answers_told mode opts limits f start clock moment end last answers accepted (inr (good, failed)) =
     let none = accepted (good_is_after_good end good) in
-    subst (AnswersRun mode opts limits f start moment) (sym failed) (inr (none.0, none.1))
+    subst (AnswersRun mode opts limits f start clock moment) (sym failed) (inr (none.0, none.1))
 
 -- an image of a settled folder has its base
 pub image_keeps : (limit : ℕ) (f image : WorkFolder) → IsSettled f → IsImage f image → KeepsBase limit f image
@@ -54,11 +54,14 @@ images mode opts limits f start g image now leaves settled is base was =
     (λ kept. inl (keeps.base base kept.0, kept.1))
     (λ other. inr (⊎_elim
     (λ none. inl (keeps.base None none))
-    (λ made. inr (made.0, record {
-      trees = made.1.trees;
-      stamp = made.1.stamp;
-      new = made.1.new;
-      base = keeps.base (Some (base_of_trees made.1.stamp (sides_in made.0) _ _)) made.1.base;
-    }))
+    (λ made. inr (
+      made.0,
+      record {
+        trees = made.1.trees;
+        stamp = made.1.stamp;
+        new = made.1.new;
+        base = keeps.base (Some (base_of_trees made.1.stamp (sides_in made.0) _ _)) made.1.base;
+      },
+    ))
     other))
     (leaves base was)

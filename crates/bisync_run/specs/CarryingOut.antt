@@ -28,6 +28,16 @@ LeavesOneBase limit prepared f start g now =
 abbrev pub but_carried : WorkFolder → WorkFolder
 but_carried f = record (but_rewritten f) { lock = Absent; lock_new = Absent }
 
+-- The old listings stand under the -err names, none under the -old and the -new names, and the digest is stored.
+pub record AreSetAside (digest : Option (List ℕ)) (f g : WorkFolder) : Type 0 where
+  pub one_old : g.one_old ≡ Absent
+  pub two_old : g.two_old ≡ Absent
+  pub one_new : g.one_new ≡ Absent
+  pub two_new : g.two_new ≡ Absent
+  pub one_err : g.one_err ≡ moved_over f.one (moved_over f.one_old f.one_err)
+  pub two_err : g.two_err ≡ moved_over f.two (moved_over f.two_old f.two_err)
+  pub stored : g.filters_md5 ≡ stored digest f.filters_md5
+
 -- The new listings are the base. The old ones stand under the -err names, and the digest is stored.
 pub record AreCarriedOut (limit : ℕ) (prepared : Prepared) (digest : Option (List ℕ)) (f g : WorkFolder) : Type 0 where
   pub base : HasBaseIn limit g Current (next_base prepared)

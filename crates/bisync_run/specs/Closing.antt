@@ -4,6 +4,7 @@ use Rattle.bisync_device.specs.Faults.{Rose}
 use Rattle.bisync_device.specs.WorkFolder.{Absent, WorkFolder, IsSettled, with_held}
 use Rattle.bisync_device.specs.declared.works.WorkName.TheVariants.{Lock}
 use Rattle.bisync_work.specs.Base.{Base, IsBase, HasNoBase}
+use Rattle.bisync_work.specs.Locks.{but_lock}
 use Rattle.bisync_work.specs.Moves.{but_fallen}
 use Rattle.bisync_report.specs.declared.ends.End.{End}
 use Rattle.bisync_report.specs.declared.ends.End.TheVariants.{LockLeft, SinkFault}
@@ -25,6 +26,10 @@ pub record Closes (old new : WorkFolder) : Type 0 where
   pub base : (limit : ℕ) (base : Option Base) → IsBase limit old base → IsBase limit new base ⊎ HasNoBase limit new
   pub settled : IsSettled old → IsSettled new
   pub rest : with_held Lock Absent (but_fallen new) ≡ with_held Lock Absent (but_fallen old)
+
+-- all but the names that a fall moves, `lock` and `lock-new`
+abbrev pub but_fallen_or_lock : WorkFolder → WorkFolder
+but_fallen_or_lock f = but_lock (but_fallen f)
 
 -- only the lock changed
 pub record Unlocks (old new : WorkFolder) : Type 0 where

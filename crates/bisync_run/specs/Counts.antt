@@ -67,14 +67,15 @@ pub record HasCauses {T : Type 0} (old new : Counts) (result : Result T End) : T
   pub good : IsOk result → new ≡ old
   pub fault : IfErr result (Stops old new)
 
--- of a whole run
+-- of a whole run; where a good end was lost, to the lock or to the last line, the counts before that call stood
 abbrev pub Ends : Counts → Counts → End → Type 0
 Ends old new (Done one two) = new ≡ old
 Ends old new (Resynced one two) = new ≡ old
 Ends old new DryRun = new ≡ old
 Ends old new InSync = new ≡ old
-Ends old new LockLeft = Rose old.work new.work
-Ends old new (SinkFault done) = Rose old.sink new.sink
+Ends old new LockLeft = Rose old.work new.work × (new.one ≡ old.one) × (new.two ≡ old.two)
+Ends old new (SinkFault true) = Rose old.sink new.sink × (new.one ≡ old.one) × (new.two ≡ old.two) × (new.work ≡ old.work)
+Ends old new (SinkFault false) = Rose old.sink new.sink
 Ends old new WorkFault = Rose old.work new.work
 Ends old new (RemoteFault One) = Rose old.one new.one
 Ends old new (RemoteFault Two) = Rose old.two new.two

@@ -46,6 +46,11 @@ is_after_good LockLeft = true
 is_after_good (SinkFault done) = done
 is_after_good end = is_good end
 
+-- the ends at which the lock was removed, whatever call failed before
+abbrev pub has_freed : End → Bool
+has_freed (SinkFault done) = done
+has_freed end = is_good end
+
 -- the ends that may come after a change of a tree
 abbrev pub may_have_changed : End → Bool
 may_have_changed (RemoteFault side) = true
@@ -57,10 +62,14 @@ may_have_changed (Done one two) = true
 may_have_changed (Resynced one two) = true
 may_have_changed end = false
 
--- whether the listings fall at the close of a course that ended so: in no dry run, and not with `--resilient`
+-- whether the listings fall at this end: in no dry run, and not with `--resilient`
+abbrev pub lets_fall : Bool → Bool → End → Bool
+lets_fall resilient dry_run end = falls_of end && not resilient && not dry_run
+
+-- whether they fall at the close of a course that ended so
 abbrev pub falls_at_close : Bool → Bool → Result End End → Bool
 falls_at_close resilient dry_run (Ok end) = false
-falls_at_close resilient dry_run (Err end) = falls_of end && not resilient && not dry_run
+falls_at_close resilient dry_run (Err end) = lets_fall resilient dry_run end
 
 -- the ends at which the lines of the plan may have been told
 abbrev pub may_tell_plan : End → Bool

@@ -1,5 +1,5 @@
 -- How a run begins: its filter rules, and the lock.
-use Rattle.std.specs.Prelude.{ℕ, ℤ, List, ◌∷◌, ◌++◌, Option, ⊤}
+use Rattle.std.specs.Prelude.{ℕ, ℤ, List, ◌∷◌, ◌++◌, Option, Bool, IsTrue, ⊤}
 use Rattle.hex.specs.Hex.{encode_lower}
 use Rattle.md5.specs.Md5.{md5}
 use Rattle.bisync_filter.specs.declared.rule_lists.Rule.{Rule}
@@ -25,6 +25,15 @@ IsEntryEnd name f moment NoFilters = LacksFilters name f.filters
 IsEntryEnd name f moment (BadRule line) = HasNoRuleAt name line f.filters
 IsEntryEnd name f moment (Locked until) = HasSomeRules name f × Blocks moment until f.lock
 IsEntryEnd name f moment end = ⊥
+
+-- the same, where a lock that blocks is told of only where the clock tells its moment
+abbrev pub IsEntryEndWhere : Option (List ℕ) → WorkFolder → Bool → ℤ → End → Type 0
+IsEntryEndWhere name f told moment WorkFault = ⊤
+IsEntryEndWhere name f told moment OutOfMemory = ⊤
+IsEntryEndWhere name f told moment NoFilters = LacksFilters name f.filters
+IsEntryEndWhere name f told moment (BadRule line) = HasNoRuleAt name line f.filters
+IsEntryEndWhere name f told moment (Locked until) = HasSomeRules name f × (IsTrue told → Blocks moment until f.lock)
+IsEntryEndWhere name f told moment end = ⊥
 
 -- a lock that blocks still holds
 abbrev pub IsHeldBack : ℤ → End → Type 0

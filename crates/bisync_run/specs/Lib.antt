@@ -13,4 +13,6 @@ pub mod Untouched
 pub mod CarryingOut
 pub mod Resyncs
 pub mod HeldResyncs
+pub mod LockNew
+pub mod ResyncEnds
 pub mod ResyncRuns

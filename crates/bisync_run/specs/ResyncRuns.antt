@@ -10,9 +10,9 @@ use Rattle.bisync_work.specs.Base.{Base, IsBase, HasNoBase}
 use Rattle.bisync_work.specs.Locks.{IsFree}
 use Rattle.bisync_report.specs.declared.ends.End.{End}
 use Rattle.bisync_report.specs.declared.ends.End.TheVariants.{OutOfMemory}
-use Rattle.bisync_run.specs.CarryingOut.{but_carried}
+use Rattle.bisync_run.specs.CarryingOut.{AreSetAside, but_carried}
 use Rattle.bisync_run.specs.EndKinds.{is_after_good, is_sink_fault, is_unlocked, may_tell_plan}
-use Rattle.bisync_run.specs.Entering.{IsEntryEnd}
+use Rattle.bisync_run.specs.Entering.{IsEntryEndWhere}
 use Rattle.bisync_run.specs.FilterRules.{AreRulesOf}
 use Rattle.bisync_run.specs.HeldResyncs.{IsGoodEndOf}
 use Rattle.bisync_run.specs.Resyncs.{IsMadeAnew, IsResynced, LeavesTrees, resync_lines}
@@ -32,16 +32,16 @@ sides_in {opts = opts} {start = start} m = sides_of opts.compare m.rules (start 
 -- # The answer
 
 -- What each end says: a refusal comes where its condition holds and none before it does, and the good end where none
--- does. That a device failed is told by its count.
-abbrev pub AnswersRun : Prefer → Opts → Limits → WorkFolder → Remotes → ℤ → End → Type 0
-AnswersRun mode opts limits f start moment end =
-    IsEntryEnd opts.filters f moment end
-    ⊎ (IsFree moment f.lock × ((m : Matter opts f start) × AnswersResync mode limits f (sides_in m) end))
+-- does. That a device failed is told by its count. A lock is told of only where the clock tells its moment.
+abbrev pub AnswersRun : Prefer → Opts → Limits → WorkFolder → Remotes → Bool → ℤ → End → Type 0
+AnswersRun mode opts limits f start told moment end =
+    IsEntryEndWhere opts.filters f told moment end
+    ⊎ ((IsTrue told → IsFree moment f.lock) × ((m : Matter opts f start) × AnswersResync mode limits f (sides_in m) end))
 
 -- nothing refused it
-abbrev pub HasNoRefusal : Prefer → Opts → Limits → WorkFolder → Remotes → ℤ → Type 0
-HasNoRefusal mode opts limits f start moment =
-    IsFree moment f.lock × ((m : Matter opts f start) × HasNoResyncRefusal mode limits f (sides_in m))
+abbrev pub HasNoRefusal : Prefer → Opts → Limits → WorkFolder → Remotes → Bool → ℤ → Type 0
+HasNoRefusal mode opts limits f start told moment =
+    (IsTrue told → IsFree moment f.lock) × ((m : Matter opts f start) × HasNoResyncRefusal mode limits f (sides_in m))
 
 -- # What is left
 
@@ -64,6 +64,10 @@ LeavesTreesOf mode opts limits f start told moment now =
 -- The resync was done.
 abbrev pub IsResyncedBy : Prefer → Opts → Limits → WorkFolder → Remotes → WorkFolder → Remotes → Type 0
 IsResyncedBy mode opts limits f start g now = (m : Matter opts f start) × IsResynced mode limits f (sides_in m) m.digest start g now
+
+-- The names besides the base, where a resync was done.
+abbrev pub AreSetAsideBy : Opts → WorkFolder → WorkFolder → Type 0
+AreSetAsideBy opts f g = (rules : List Rule) × (digest : Option (List ℕ)) × AreRulesOf opts.filters f.filters rules digest × AreSetAside digest f g
 
 -- a good end is that of a dry run, or tells the numbers of changes
 abbrev pub HasNumbers : Prefer → Opts → WorkFolder → Remotes → End → Type 0

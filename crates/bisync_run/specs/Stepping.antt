@@ -16,7 +16,7 @@ use Rattle.bisync_work.specs.LockTexts.{expiry_of, lock_text}
 use Rattle.bisync_work.specs.Locks.{relocked}
 use Rattle.bisync_report.specs.declared.ends.End.{End}
 use Rattle.bisync_report.specs.declared.ends.End.TheVariants.{WorkFault, RemoteFault, Moved}
-use Rattle.bisync_run.specs.Grounds.{IsOther}
+use Rattle.bisync_run.specs.Grounds.{IsOther, IsReadAs}
 
 -- the first of the steps were done, one after another, and nothing else
 pub record IsPartDone (steps : List Step) (start now : Side → RemoteState) : Type 0 where
@@ -48,6 +48,11 @@ IsDeviceFault end = ⊥
 abbrev pub MovedDiffers : End → Type 0
 MovedDiffers (Moved side path listed read) = IsOther listed read
 MovedDiffers end = ⊤
+
+-- and what was read of it is told
+abbrev pub MovedIsRead : End → Type 0
+MovedIsRead (Moved side path listed read) = IsReadAs listed read
+MovedIsRead end = ⊤
 
 -- the path under which the file of a step was listed
 abbrev pub path_of : Step → PathBytes

@@ -1,7 +1,7 @@
 //! How a run ends: the listings fall where the end asks for it, the lock goes, and the last line is
 //! told.
 
-ghost use Rattle.std.specs.Prelude.{◌≡◌, ◌⊎◌, ◌≤◌, ◌++◌, IsTrue, None, true, false};
+ghost use Rattle.std.specs.Prelude.{◌≡◌, ◌⊎◌, ◌≤◌, ◌++◌, IsTrue, IsOk, None, true, false};
 ghost use Rattle.bisync_device.specs.Faults.{Rose};
 ghost use Rattle.bisync_device.specs.WorkFolder.{Absent};
 ghost use Rattle.bisync_work.specs.Moves.{Falls};
@@ -21,6 +21,7 @@ pub fn close<W: Work>(opts: &Opts, work: &mut W, ended: Result<End, End>) -> End
     ensures kept { IsTrue W.tells → falls_at_close opts.now.resilient opts.now.dry_run ended ≡ false → Unlocks (W.state work.old).folder (W.state work.new).folder }
     ensures fallen { IsTrue W.tells → falls_at_close opts.now.resilient opts.now.dry_run ended ≡ true → (Rose (W.state work.old).faults (W.state work.new).faults → ⊥) → HasNoListings (W.state work.new).folder }
     ensures freed { IsTrue W.tells → (Rose (W.state work.old).faults (W.state work.new).faults → ⊥) → (W.state work.new).folder.lock ≡ Absent }
+    ensures good { IsTrue W.tells → IsOk ended → is_good_end result ≡ true → (W.state work.new).folder.lock ≡ Absent }
     ensures counts { CountsClose ended result (W.state work.old).faults (W.state work.new).faults }
     ensures later { (W.state work.old).faults ≤ (W.state work.new).faults }
     ensures left { (W.state work.old).left ≡ None → (W.state work.new).left ≡ None }

@@ -6,8 +6,10 @@ ghost use Rattle.bisync_tree.specs.Ranges.{IsLongEnough};
 ghost use Rattle.bisync_work.specs.Locks.{ChangesLock, IsFree};
 ghost use Rattle.bisync_run.specs.Counts.{counts, HasCauses};
 ghost use Rattle.bisync_run.specs.EndKinds.{is_before_lock};
-ghost use Rattle.bisync_run.specs.Entering.{IsEntryEnd, IsHeldBack, IsRulesEnd, IsNoLock, session_of};
+ghost use Rattle.bisync_run.specs.Entering.{IsEntryEnd, IsEntryEndWhere, IsHeldBack, IsRulesEnd, IsNoLock, session_of};
 ghost use Rattle.bisync_run.specs.FilterRules.{AreRulesOf};
+ghost use Rattle.bisync_run.specs.LockNew.{KeepsLockNew};
+ghost use Rattle.bisync_run.specs.ResyncEnds.{IsUnlockedEnd};
 
 use bisync_device::{Clock, Work};
 use bisync_filter::{Rules, digest_text};
@@ -52,10 +54,13 @@ pub fn enter<W: Work, C: Clock>(
     ensures rules { IsTrue W.tells → IfOk result (λ entered. AreRulesOf opts.now.filters (W.state work.old).folder.filters entered.rules entered.digest) }
     ensures free { IsTrue W.tells → IsTrue C.tells → OnOk result (IsFree (C.moment clock.old) (W.state work.old).folder.lock) }
     ensures refusal { IsTrue W.tells → IsTrue C.tells → IfErr result (IsEntryEnd opts.now.filters (W.state work.old).folder (C.moment clock.old)) }
+    ensures entry { IsTrue W.tells → IfErr result (IsEntryEndWhere opts.now.filters (W.state work.old).folder C.tells (C.moment clock.old)) }
     ensures held_back { IsTrue C.tells → IfErr result (IsHeldBack (C.moment clock.old)) }
     ensures only { IfErr result (λ end. is_before_lock end ≡ true) }
+    ensures kind { IfErr result (IsUnlockedEnd opts.now.filters) }
     ensures kept { IsTrue W.tells → IfErr result (λ end. end ≢ End.WorkFault → (W.state work.new).folder ≡ (W.state work.old).folder) }
     ensures others { IsTrue W.tells → ChangesLock (W.state work.old).folder (W.state work.new).folder }
+    ensures lock_new { IsTrue W.tells → OnOk result (KeepsLockNew (W.state work.old).folder (W.state work.new).folder) }
     ensures moment { IsTrue C.tells → C.moment clock.new ≡ C.moment clock.old }
     ensures left { (W.state work.old).left ≡ None → (W.state work.new).left ≡ None }
     ensures causes { HasCauses (counts 0 0 (W.state work.old).faults 0) (counts 0 0 (W.state work.new).faults 0) result }
@@ -92,6 +97,7 @@ fn rules_of<W: Work>(
     ensures rules { IsTrue W.tells → IfOk result (λ read. AreRulesOf opts.now.filters (W.state work.old).folder.filters read.0 read.1) }
     ensures refusal { IsTrue W.tells → IfErr result (IsRulesEnd opts.now.filters (W.state work.old).folder.filters) }
     ensures only { IfErr result (λ end. is_before_lock end ≡ true) }
+    ensures kind { IfErr result (IsUnlockedEnd opts.now.filters) }
     ensures not_locked { IfErr result IsNoLock }
     ensures folder { KeepsFolder W.tells (W.state work.old) (W.state work.new) }
     ensures left { (W.state work.old).left ≡ None → (W.state work.new).left ≡ None }

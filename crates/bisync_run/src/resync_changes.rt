@@ -5,11 +5,13 @@ ghost use Rattle.bisync_tree.specs.Ranges.{IsLongEnough};
 ghost use Rattle.bisync_model.specs.Trees.{by_side};
 ghost use Rattle.bisync_model.specs.Changes.{changes_of};
 ghost use Rattle.bisync_plan.specs.Plans.{AreWritable, header_of};
+ghost use Rattle.bisync_device.specs.Faults.{Rose};
 ghost use Rattle.bisync_device.specs.WorkFolder.{IsSettled};
 ghost use Rattle.bisync_transfer.specs.StepTrees.{AreDone};
 ghost use Rattle.bisync_run.specs.CarryingOut.{AreWithin, LeavesOneBase, but_carried, AreCarriedOut};
 ghost use Rattle.bisync_run.specs.Counts.{counts, HasCauses};
-ghost use Rattle.bisync_run.specs.Stepping.{IsPartDone, FindsAll, IsStepEnd, IsDeviceFault, MovedDiffers};
+ghost use Rattle.bisync_run.specs.LockNew.{KeepsLockNew};
+ghost use Rattle.bisync_run.specs.Stepping.{IsPartDone, FindsAll, IsStepEnd, IsDeviceFault, MovedDiffers, MovedIsRead};
 
 use crate::prepared::Prepared;
 use crate::resync_writes::write_resync;
@@ -38,12 +40,15 @@ pub fn carry_out<A: Remote, B: Remote, W: Work, C: Clock>(
         → LeavesOneBase limit prepared (W.state work.old).folder (by_side (A.state one.old) (B.state two.old)) (W.state work.new).folder (by_side (A.state one.new) (B.state two.new)) }
     ensures settled { IsTrue W.tells → IsSettled (W.state work.old).folder → IsSettled (W.state work.new).folder }
     ensures rest { IsTrue W.tells → but_carried (W.state work.new).folder ≡ but_carried (W.state work.old).folder }
+    ensures lock_new { IsTrue W.tells → (Rose (W.state work.old).faults (W.state work.new).faults → ⊥) → KeepsLockNew (W.state work.old).folder (W.state work.new).folder }
+    ensures no_digest { IsTrue W.tells → digest.now ≡ None → (W.state work.new).folder.filters_md5 ≡ (W.state work.old).folder.filters_md5 }
     ensures carried_out { IsTrue W.tells → (limit : ℕ) → limit < 2 ^ 64 → AreWithin limit prepared → OnOk result (AreCarriedOut limit prepared digest.now (W.state work.old).folder (W.state work.new).folder) }
     ensures done { IsTrue A.tells → IsTrue B.tells → OnOk result (AreDone prepared.plan.steps.items (by_side (A.state one.old) (B.state two.old)) (by_side (A.state one.new) (B.state two.new))) }
     ensures part { IsTrue A.tells → IsTrue B.tells → IsPartDone prepared.plan.steps.items (by_side (A.state one.old) (B.state two.old)) (by_side (A.state one.new) (B.state two.new)) }
     ensures changes { IfOk result (λ changes. (changes.one ≡ sum_by (changes_of Side.One) prepared.plan.steps.items) × (changes.two ≡ sum_by (changes_of Side.Two) prepared.plan.steps.items)) }
     ensures end { IfErr result IsStepEnd }
     ensures moved { IfErr result MovedDiffers }
+    ensures read { IfErr result MovedIsRead }
     ensures found { IsTrue A.tells → IsTrue B.tells → FindsAll prepared.plan.steps.items (by_side (A.state one.old) (B.state two.old)) → IfErr result IsDeviceFault }
     ensures windows { ((A.state one.new).window ≡ (A.state one.old).window) × ((B.state two.new).window ≡ (B.state two.old).window) }
     ensures left1 { (A.state one.old).left ≡ None → (A.state one.new).left ≡ None }

@@ -11,8 +11,9 @@ ghost use Rattle.bisync_plan.specs.Plans.{IsResyncOf, AreWritable, header_of};
 ghost use Rattle.bisync_work.specs.Stamps.{IsNewStamp};
 ghost use Rattle.bisync_run.specs.Counts.{counts, HasCauses};
 ghost use Rattle.bisync_run.specs.EndKinds.{is_unlocked, is_sink_fault};
-ghost use Rattle.bisync_run.specs.Grounds.{HasGrounds};
+ghost use Rattle.bisync_run.specs.Grounds.{HasGrounds, IsTold};
 ghost use Rattle.bisync_run.specs.Looking.{OnlyLooks, IsWhyNoStamp, unplanned_end};
+ghost use Rattle.bisync_run.specs.ResyncEnds.{IsUnplannedEnd};
 ghost use Rattle.bisync_run.specs.ResyncRefusals.{AnswersResync, HasNoResyncRefusal};
 ghost use Rattle.bisync_run.specs.Sides.{compare_in, sides_of, resync_known, resync_paths};
 
@@ -51,7 +52,9 @@ pub fn look_resync<A: Remote, B: Remote, W: Work>(
     ensures accepted { IsTrue A.tells → IsTrue B.tells → IsTrue W.tells → OnOk result (HasNoResyncRefusal mode limits.now (W.state work.old).folder (sides_of opts.now.compare rules.now (A.state one.old) (B.state two.old))) }
     ensures refusal { IsTrue A.tells → IsTrue B.tells → IsTrue W.tells → IfErr result (AnswersResync mode limits.now (W.state work.old).folder (sides_of opts.now.compare rules.now (A.state one.old) (B.state two.old))) }
     ensures only { IfErr result (λ end. (is_unlocked end ≡ false) × (is_sink_fault end ≡ false)) }
+    ensures kind { IfErr result IsUnplannedEnd }
     ensures grounds { IfErr result (HasGrounds limits.now (by_side A.tells B.tells)) }
+    ensures told { IfErr result (IsTold (by_side A.tells B.tells) (by_side (A.state one.old) (B.state two.old))) }
     ensures one { OnlyLooks A.tells (A.state one.old) (A.state one.new) }
     ensures two { OnlyLooks B.tells (B.state two.old) (B.state two.new) }
     ensures folder { KeepsFolder W.tells (W.state work.old) (W.state work.new) }

@@ -1,17 +1,20 @@
 //! A resync that holds the lock.
 
-ghost use Rattle.std.specs.Prelude.{◌≡◌, ◌<◌, IsTrue, IfOk, IfErr, OnOk, None, true, false, length};
+ghost use Rattle.std.specs.Prelude.{◌≡◌, ◌<◌, ◌++◌, ℕ, List, IsTrue, IfOk, IfErr, OnOk, None, true, false, length};
 ghost use Rattle.bisync_tree.specs.Ranges.{ComparesSome, IsLongEnough};
 ghost use Rattle.bisync_model.specs.Trees.{by_side};
+ghost use Rattle.bisync_device.specs.Faults.{Rose};
 ghost use Rattle.bisync_device.specs.WorkFolder.{IsSettled};
 ghost use Rattle.bisync_device.specs.Remote.{KeepsTree};
 ghost use Rattle.bisync_device.specs.Work.{KeepsFolder};
 ghost use Rattle.bisync_opts.specs.Ranges.{IsInRange};
-ghost use Rattle.bisync_run.specs.CarryingOut.{but_carried};
+ghost use Rattle.bisync_run.specs.CarryingOut.{AreSetAside, but_carried};
 ghost use Rattle.bisync_run.specs.Counts.{counts, HasCauses};
-ghost use Rattle.bisync_run.specs.EndKinds.{is_good, is_unlocked, may_have_changed};
-ghost use Rattle.bisync_run.specs.Grounds.{HasGrounds};
+ghost use Rattle.bisync_run.specs.EndKinds.{is_good, is_unlocked, may_have_changed, may_tell_plan};
+ghost use Rattle.bisync_run.specs.Grounds.{HasGrounds, IsTold};
 ghost use Rattle.bisync_run.specs.HeldResyncs.{end_of, IsGoodEndOf, TellsPlan};
+ghost use Rattle.bisync_run.specs.LockNew.{KeepsLockNew};
+ghost use Rattle.bisync_run.specs.ResyncEnds.{IsResyncEnd};
 ghost use Rattle.bisync_run.specs.ResyncRefusals.{AnswersResync, HasNoResyncRefusal};
 ghost use Rattle.bisync_run.specs.Resyncs.{IsResynced, LeavesBase, LeavesTrees};
 ghost use Rattle.bisync_run.specs.Sides.{sides_of};
@@ -66,6 +69,12 @@ pub fn resync<A: Remote, B: Remote, W: Work, C: Clock, S: Sink>(
         OnOk result (HasNoResyncRefusal mode limits.now (W.state work.old).folder (sides_of opts.now.compare entered.now.rules (A.state one.old) (B.state two.old))) }
     ensures well { IfOk result (λ end. is_good end ≡ true) }
     ensures only { is_unlocked (end_of result) ≡ false }
+    ensures kind { IsResyncEnd opts.now (end_of result) }
+    ensures lock_new { IsTrue W.tells → (Rose (W.state work.old).faults (W.state work.new).faults → ⊥) → KeepsLockNew (W.state work.old).folder (W.state work.new).folder }
+    ensures no_digest { IsTrue W.tells → entered.now.digest ≡ None → (W.state work.new).folder.filters_md5 ≡ (W.state work.old).folder.filters_md5 }
+    ensures set_aside { IsTrue W.tells → opts.now.dry_run ≡ false → OnOk result (AreSetAside entered.now.digest (W.state work.old).folder (W.state work.new).folder) }
+    ensures quiet { IsTrue S.tells → (Rose (S.state sink.old).faults (S.state sink.new).faults → ⊥) → may_tell_plan (end_of result) ≡ false → (S.state sink.new).bytes ≡ (S.state sink.old).bytes }
+    ensures lines { IsTrue S.tells → (lines : List ℕ) × ((S.state sink.new).bytes ≡ (S.state sink.old).bytes ++ lines) }
     ensures report { IsTrue A.tells → IsTrue B.tells → IsTrue S.tells →
         TellsPlan mode (sides_of opts.now.compare entered.now.rules (A.state one.old) (B.state two.old)) (by_side (A.state one.old) (B.state two.old)) (by_side (A.state one.new) (B.state two.new)) (S.state sink.old).bytes (S.state sink.new).bytes result }
     ensures early_one { may_have_changed (end_of result) ≡ false → KeepsTree A.tells (A.state one.old) (A.state one.new) }
@@ -75,6 +84,7 @@ pub fn resync<A: Remote, B: Remote, W: Work, C: Clock, S: Sink>(
     ensures dry_two { opts.now.dry_run ≡ true → KeepsTree B.tells (B.state two.old) (B.state two.new) }
     ensures dry { opts.now.dry_run ≡ true → KeepsFolder W.tells (W.state work.old) (W.state work.new) }
     ensures grounds { IfErr result (HasGrounds limits.now (by_side A.tells B.tells)) }
+    ensures told { IsTold (by_side A.tells B.tells) (by_side (A.state one.old) (B.state two.old)) (end_of result) }
     ensures windows { ((A.state one.new).window ≡ (A.state one.old).window) × ((B.state two.new).window ≡ (B.state two.old).window) }
     ensures left1 { (A.state one.old).left ≡ None → (A.state one.new).left ≡ None }
     ensures left2 { (B.state two.old).left ≡ None → (B.state two.new).left ≡ None }

@@ -1,21 +1,22 @@
 //! One run.
 
-ghost use Rattle.std.specs.Prelude.{◌≡◌, [], IsTrue, None, Some, true, false};
+ghost use Rattle.std.specs.Prelude.{◌≡◌, ◌++◌, ℕ, List, [], IsTrue, None, Some, true, false};
 ghost use Rattle.bisync_tree.specs.declared.options.Prefer.{Prefer};
 ghost use Rattle.bisync_model.specs.Trees.{by_side};
 ghost use Rattle.bisync_device.specs.Faults.{Rose};
 ghost use Rattle.bisync_device.specs.Remote.{KeepsTree};
-ghost use Rattle.bisync_device.specs.WorkFolder.{WorkFolder, IsSettled, IsImage};
+ghost use Rattle.bisync_device.specs.WorkFolder.{Absent, WorkFolder, IsSettled, IsImage};
 ghost use Rattle.bisync_opts.specs.Ranges.{IsInRange};
 ghost use Rattle.bisync_report.specs.LastLine.{last_text};
-ghost use Rattle.bisync_report.specs.Status.{falls_of};
 ghost use Rattle.bisync_work.specs.Locks.{ChangesLock};
-ghost use Rattle.bisync_run.specs.Closing.{HasNoListings};
+ghost use Rattle.bisync_run.specs.Closing.{HasNoListings, but_fallen_or_lock};
 ghost use Rattle.bisync_run.specs.Counts.{counts, Later, Ends};
-ghost use Rattle.bisync_run.specs.EndKinds.{is_good, is_after_good, may_have_changed};
-ghost use Rattle.bisync_run.specs.Entering.{IsHeldBack};
-ghost use Rattle.bisync_run.specs.Grounds.{HasGrounds};
-ghost use Rattle.bisync_run.specs.ResyncRuns.{AnswersRun, HasNoRefusal, IsResyncedBy, HasNumbers, LeavesBaseOf, LeavesTreesOf, TellsRun, LeavesLock, but_run};
+ghost use Rattle.bisync_run.specs.EndKinds.{is_good, is_after_good, has_freed, is_unlocked, lets_fall, may_have_changed, may_tell_plan};
+ghost use Rattle.bisync_run.specs.Entering.{IsEntryEndWhere, IsHeldBack};
+ghost use Rattle.bisync_run.specs.Grounds.{HasGrounds, IsTold};
+ghost use Rattle.bisync_run.specs.LockNew.{KeepsLockNew};
+ghost use Rattle.bisync_run.specs.ResyncEnds.{IsResyncEnd};
+ghost use Rattle.bisync_run.specs.ResyncRuns.{AnswersRun, AreSetAsideBy, HasNoRefusal, IsResyncedBy, HasNumbers, LeavesBaseOf, LeavesTreesOf, TellsRun, LeavesLock, but_run};
 
 use crate::closing::{close, tell_end};
 use crate::entering::enter;
@@ -39,35 +40,45 @@ fn resync_to_close<A: Remote, B: Remote, W: Work, C: Clock, S: Sink>(
     sink: &mut S,
 ) -> End
     requires { IsInRange opts.now }
-    ensures answers { IsTrue A.tells → IsTrue B.tells → IsTrue W.tells → IsTrue C.tells → 
-        AnswersRun mode opts.now limits.now (W.state work.old).folder (by_side (A.state one.old) (B.state two.old)) (C.moment clock.old) result }
-    ensures accepted { IsTrue A.tells → IsTrue B.tells → IsTrue W.tells → IsTrue C.tells → is_after_good result ≡ true →
-        HasNoRefusal mode opts.now limits.now (W.state work.old).folder (by_side (A.state one.old) (B.state two.old)) (C.moment clock.old) }
+    ensures answers { IsTrue A.tells → IsTrue B.tells → IsTrue W.tells →
+        AnswersRun mode opts.now limits.now (W.state work.old).folder (by_side (A.state one.old) (B.state two.old)) C.tells (C.moment clock.old) result }
+    ensures accepted { IsTrue A.tells → IsTrue B.tells → IsTrue W.tells → is_after_good result ≡ true →
+        HasNoRefusal mode opts.now limits.now (W.state work.old).folder (by_side (A.state one.old) (B.state two.old)) C.tells (C.moment clock.old) }
     ensures resynced { IsTrue A.tells → IsTrue B.tells → IsTrue W.tells → opts.now.dry_run ≡ false → is_after_good result ≡ true →
         IsResyncedBy mode opts.now limits.now (W.state work.old).folder (by_side (A.state one.old) (B.state two.old)) (W.state work.new).folder (by_side (A.state one.new) (B.state two.new)) }
+    ensures set_aside { IsTrue W.tells → opts.now.dry_run ≡ false → is_after_good result ≡ true → AreSetAsideBy opts.now (W.state work.old).folder (W.state work.new).folder }
+    ensures only { IsResyncEnd opts.now result }
     ensures numbers { IsTrue A.tells → IsTrue B.tells → IsTrue W.tells → is_good result ≡ true → HasNumbers mode opts.now (W.state work.old).folder (by_side (A.state one.old) (B.state two.old)) result }
-    ensures base { IsTrue A.tells → IsTrue B.tells → IsTrue W.tells → 
+    ensures base { IsTrue A.tells → IsTrue B.tells → IsTrue W.tells →
         LeavesBaseOf mode opts.now limits.now (W.state work.old).folder (by_side (A.state one.old) (B.state two.old)) (W.state work.new).folder (by_side (A.state one.new) (B.state two.new)) }
-    ensures trees { IsTrue A.tells → IsTrue B.tells → IsTrue W.tells → 
+    ensures trees { IsTrue A.tells → IsTrue B.tells → IsTrue W.tells →
         LeavesTreesOf mode opts.now limits.now (W.state work.old).folder (by_side (A.state one.old) (B.state two.old)) C.tells (C.moment clock.old) (by_side (A.state one.new) (B.state two.new)) }
     ensures settled { IsTrue W.tells → IsSettled (W.state work.old).folder → IsSettled (W.state work.new).folder }
     ensures rest { IsTrue W.tells → but_run (W.state work.new).folder ≡ but_run (W.state work.old).folder }
     ensures untouched_one { may_have_changed result ≡ false → KeepsTree A.tells (A.state one.old) (A.state one.new) }
     ensures untouched_two { may_have_changed result ≡ false → KeepsTree B.tells (B.state two.old) (B.state two.new) }
-    ensures kept { IsTrue W.tells → may_have_changed result ≡ false → falls_of result ≡ false → ChangesLock (W.state work.old).folder (W.state work.new).folder }
-    ensures fallen { IsTrue W.tells → opts.now.resilient ≡ false → opts.now.dry_run ≡ false → falls_of result ≡ true → (Rose (W.state work.old).faults (W.state work.new).faults → ⊥) → HasNoListings (W.state work.new).folder }
+    ensures kept { IsTrue W.tells → may_have_changed result ≡ false → lets_fall opts.now.resilient opts.now.dry_run result ≡ false → ChangesLock (W.state work.old).folder (W.state work.new).folder }
+    ensures only_fallen { IsTrue W.tells → may_have_changed result ≡ false → but_fallen_or_lock (W.state work.new).folder ≡ but_fallen_or_lock (W.state work.old).folder }
+    ensures fallen { IsTrue W.tells → lets_fall opts.now.resilient opts.now.dry_run result ≡ true → (Rose (W.state work.old).faults (W.state work.new).faults → ⊥) → HasNoListings (W.state work.new).folder }
     ensures dry_one { opts.now.dry_run ≡ true → KeepsTree A.tells (A.state one.old) (A.state one.new) }
     ensures dry_two { opts.now.dry_run ≡ true → KeepsTree B.tells (B.state two.old) (B.state two.new) }
     ensures dry { IsTrue W.tells → opts.now.dry_run ≡ true → ChangesLock (W.state work.old).folder (W.state work.new).folder }
     ensures lock { IsTrue W.tells → (Rose (W.state work.old).faults (W.state work.new).faults → ⊥) → LeavesLock result (W.state work.old).folder (W.state work.new).folder }
+    ensures freed { IsTrue W.tells → has_freed result ≡ true → (W.state work.new).folder.lock ≡ Absent }
+    ensures lock_new { IsTrue W.tells → (Rose (W.state work.old).faults (W.state work.new).faults → ⊥) → KeepsLockNew (W.state work.old).folder (W.state work.new).folder }
+    ensures no_digest { IsTrue W.tells → opts.now.filters ≡ None → (W.state work.new).folder.filters_md5 ≡ (W.state work.old).folder.filters_md5 }
+    ensures entry { IsTrue W.tells → is_unlocked result ≡ true → IsEntryEndWhere opts.now.filters (W.state work.old).folder C.tells (C.moment clock.old) result }
     ensures held_back { IsTrue C.tells → IsHeldBack (C.moment clock.old) result }
     ensures grounds { HasGrounds limits.now (by_side A.tells B.tells) result }
+    ensures told { IsTold (by_side A.tells B.tells) (by_side (A.state one.old) (B.state two.old)) result }
     ensures windows { ((A.state one.new).window ≡ (A.state one.old).window) × ((B.state two.new).window ≡ (B.state two.old).window) }
     ensures left1 { (A.state one.old).left ≡ None → (A.state one.new).left ≡ None }
     ensures left2 { (B.state two.old).left ≡ None → (B.state two.new).left ≡ None }
     ensures left { (W.state work.old).left ≡ None → (W.state work.new).left ≡ None }
     ensures later { Later (counts (A.state one.old).faults (B.state two.old).faults (W.state work.old).faults (S.state sink.old).faults) (counts (A.state one.new).faults (B.state two.new).faults (W.state work.new).faults (S.state sink.new).faults) }
     ensures causes { Ends (counts (A.state one.old).faults (B.state two.old).faults (W.state work.old).faults (S.state sink.old).faults) (counts (A.state one.new).faults (B.state two.new).faults (W.state work.new).faults (S.state sink.new).faults) result }
+    ensures quiet { IsTrue S.tells → (Rose (S.state sink.old).faults (S.state sink.new).faults → ⊥) → may_tell_plan result ≡ false → (S.state sink.new).bytes ≡ (S.state sink.old).bytes }
+    ensures lines { IsTrue S.tells → (lines : List ℕ) × ((S.state sink.new).bytes ≡ (S.state sink.old).bytes ++ lines) }
     ensures report { IsTrue A.tells → IsTrue B.tells → IsTrue S.tells → IsTrue W.tells →
         TellsRun mode opts.now (W.state work.old).folder (by_side (A.state one.old) (B.state two.old)) (by_side (A.state one.new) (B.state two.new)) (S.state sink.old).bytes [] (S.state sink.new).bytes result }
 {
@@ -93,38 +104,48 @@ pub fn run<A: Remote, B: Remote, W: Work, C: Clock, S: Sink>(
     sink: &mut S,
 ) -> End
     requires { IsInRange opts.now }
-    ensures answers { IsTrue A.tells → IsTrue B.tells → IsTrue W.tells → IsTrue C.tells → (mode : Prefer) → opts.now.resync ≡ Some mode → 
-        AnswersRun mode opts.now limits.now (W.state work.old).folder (by_side (A.state one.old) (B.state two.old)) (C.moment clock.old) result }
-    ensures accepted { IsTrue A.tells → IsTrue B.tells → IsTrue W.tells → IsTrue C.tells → (mode : Prefer) → opts.now.resync ≡ Some mode → is_after_good result ≡ true →
-        HasNoRefusal mode opts.now limits.now (W.state work.old).folder (by_side (A.state one.old) (B.state two.old)) (C.moment clock.old) }
+    ensures answers { IsTrue A.tells → IsTrue B.tells → IsTrue W.tells → (mode : Prefer) → opts.now.resync ≡ Some mode →
+        AnswersRun mode opts.now limits.now (W.state work.old).folder (by_side (A.state one.old) (B.state two.old)) C.tells (C.moment clock.old) result }
+    ensures accepted { IsTrue A.tells → IsTrue B.tells → IsTrue W.tells → (mode : Prefer) → opts.now.resync ≡ Some mode → is_after_good result ≡ true →
+        HasNoRefusal mode opts.now limits.now (W.state work.old).folder (by_side (A.state one.old) (B.state two.old)) C.tells (C.moment clock.old) }
     ensures resynced { IsTrue A.tells → IsTrue B.tells → IsTrue W.tells → (mode : Prefer) → opts.now.resync ≡ Some mode → opts.now.dry_run ≡ false → is_after_good result ≡ true →
         IsResyncedBy mode opts.now limits.now (W.state work.old).folder (by_side (A.state one.old) (B.state two.old)) (W.state work.new).folder (by_side (A.state one.new) (B.state two.new)) }
+    ensures set_aside { IsTrue W.tells → (mode : Prefer) → opts.now.resync ≡ Some mode → opts.now.dry_run ≡ false → is_after_good result ≡ true → AreSetAsideBy opts.now (W.state work.old).folder (W.state work.new).folder }
+    ensures only { (mode : Prefer) → opts.now.resync ≡ Some mode → IsResyncEnd opts.now result }
     ensures numbers { IsTrue A.tells → IsTrue B.tells → IsTrue W.tells → (mode : Prefer) → opts.now.resync ≡ Some mode → is_good result ≡ true → HasNumbers mode opts.now (W.state work.old).folder (by_side (A.state one.old) (B.state two.old)) result }
-    ensures base { IsTrue A.tells → IsTrue B.tells → IsTrue W.tells → (mode : Prefer) → opts.now.resync ≡ Some mode → 
+    ensures base { IsTrue A.tells → IsTrue B.tells → IsTrue W.tells → (mode : Prefer) → opts.now.resync ≡ Some mode →
         LeavesBaseOf mode opts.now limits.now (W.state work.old).folder (by_side (A.state one.old) (B.state two.old)) (W.state work.new).folder (by_side (A.state one.new) (B.state two.new)) }
     ensures images { IsTrue A.tells → IsTrue B.tells → IsTrue W.tells → (mode : Prefer) → opts.now.resync ≡ Some mode →
         IsSettled (W.state work.old).folder → (image : WorkFolder) → IsImage (W.state work.new).folder image →
         LeavesBaseOf mode opts.now limits.now (W.state work.old).folder (by_side (A.state one.old) (B.state two.old)) image (by_side (A.state one.new) (B.state two.new)) }
-    ensures trees { IsTrue A.tells → IsTrue B.tells → IsTrue W.tells → (mode : Prefer) → opts.now.resync ≡ Some mode → 
+    ensures trees { IsTrue A.tells → IsTrue B.tells → IsTrue W.tells → (mode : Prefer) → opts.now.resync ≡ Some mode →
         LeavesTreesOf mode opts.now limits.now (W.state work.old).folder (by_side (A.state one.old) (B.state two.old)) C.tells (C.moment clock.old) (by_side (A.state one.new) (B.state two.new)) }
     ensures settled { IsTrue W.tells → IsSettled (W.state work.old).folder → IsSettled (W.state work.new).folder }
     ensures rest { IsTrue W.tells → but_run (W.state work.new).folder ≡ but_run (W.state work.old).folder }
     ensures untouched_one { may_have_changed result ≡ false → KeepsTree A.tells (A.state one.old) (A.state one.new) }
     ensures untouched_two { may_have_changed result ≡ false → KeepsTree B.tells (B.state two.old) (B.state two.new) }
-    ensures kept { IsTrue W.tells → may_have_changed result ≡ false → falls_of result ≡ false → ChangesLock (W.state work.old).folder (W.state work.new).folder }
-    ensures fallen { IsTrue W.tells → opts.now.resilient ≡ false → opts.now.dry_run ≡ false → falls_of result ≡ true → (Rose (W.state work.old).faults (W.state work.new).faults → ⊥) → HasNoListings (W.state work.new).folder }
+    ensures kept { IsTrue W.tells → may_have_changed result ≡ false → lets_fall opts.now.resilient opts.now.dry_run result ≡ false → ChangesLock (W.state work.old).folder (W.state work.new).folder }
+    ensures only_fallen { IsTrue W.tells → may_have_changed result ≡ false → but_fallen_or_lock (W.state work.new).folder ≡ but_fallen_or_lock (W.state work.old).folder }
+    ensures fallen { IsTrue W.tells → lets_fall opts.now.resilient opts.now.dry_run result ≡ true → (Rose (W.state work.old).faults (W.state work.new).faults → ⊥) → HasNoListings (W.state work.new).folder }
     ensures dry_one { opts.now.dry_run ≡ true → KeepsTree A.tells (A.state one.old) (A.state one.new) }
     ensures dry_two { opts.now.dry_run ≡ true → KeepsTree B.tells (B.state two.old) (B.state two.new) }
     ensures dry { IsTrue W.tells → opts.now.dry_run ≡ true → ChangesLock (W.state work.old).folder (W.state work.new).folder }
     ensures lock { IsTrue W.tells → (mode : Prefer) → opts.now.resync ≡ Some mode → (Rose (W.state work.old).faults (W.state work.new).faults → ⊥) → LeavesLock result (W.state work.old).folder (W.state work.new).folder }
+    ensures freed { IsTrue W.tells → has_freed result ≡ true → (W.state work.new).folder.lock ≡ Absent }
+    ensures lock_new { IsTrue W.tells → (Rose (W.state work.old).faults (W.state work.new).faults → ⊥) → KeepsLockNew (W.state work.old).folder (W.state work.new).folder }
+    ensures no_digest { IsTrue W.tells → opts.now.filters ≡ None → (W.state work.new).folder.filters_md5 ≡ (W.state work.old).folder.filters_md5 }
+    ensures entry { IsTrue W.tells → is_unlocked result ≡ true → IsEntryEndWhere opts.now.filters (W.state work.old).folder C.tells (C.moment clock.old) result }
     ensures held_back { IsTrue C.tells → IsHeldBack (C.moment clock.old) result }
     ensures grounds { HasGrounds limits.now (by_side A.tells B.tells) result }
+    ensures told { IsTold (by_side A.tells B.tells) (by_side (A.state one.old) (B.state two.old)) result }
     ensures windows { ((A.state one.new).window ≡ (A.state one.old).window) × ((B.state two.new).window ≡ (B.state two.old).window) }
     ensures left1 { (A.state one.old).left ≡ None → (A.state one.new).left ≡ None }
     ensures left2 { (B.state two.old).left ≡ None → (B.state two.new).left ≡ None }
     ensures left { (W.state work.old).left ≡ None → (W.state work.new).left ≡ None }
     ensures later { Later (counts (A.state one.old).faults (B.state two.old).faults (W.state work.old).faults (S.state sink.old).faults) (counts (A.state one.new).faults (B.state two.new).faults (W.state work.new).faults (S.state sink.new).faults) }
     ensures causes { Ends (counts (A.state one.old).faults (B.state two.old).faults (W.state work.old).faults (S.state sink.old).faults) (counts (A.state one.new).faults (B.state two.new).faults (W.state work.new).faults (S.state sink.new).faults) result }
+    ensures quiet { IsTrue S.tells → (Rose (S.state sink.old).faults (S.state sink.new).faults → ⊥) → may_tell_plan result ≡ false → (S.state sink.new).bytes ≡ (S.state sink.old).bytes ++ last_text result }
+    ensures lines { IsTrue S.tells → (Rose (S.state sink.old).faults (S.state sink.new).faults → ⊥) → (lines : List ℕ) × ((S.state sink.new).bytes ≡ ((S.state sink.old).bytes ++ lines) ++ last_text result) }
     ensures report { IsTrue A.tells → IsTrue B.tells → IsTrue S.tells → IsTrue W.tells → (mode : Prefer) → opts.now.resync ≡ Some mode →
         (Rose (S.state sink.old).faults (S.state sink.new).faults → ⊥) →
         TellsRun mode opts.now (W.state work.old).folder (by_side (A.state one.old) (B.state two.old)) (by_side (A.state one.new) (B.state two.new)) (S.state sink.old).bytes (last_text result) (S.state sink.new).bytes result }

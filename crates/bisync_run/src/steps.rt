@@ -5,12 +5,13 @@ ghost use Rattle.std.specs.List.{sum_by};
 ghost use Rattle.bisync_tree.specs.Ranges.{IsLongEnough};
 ghost use Rattle.bisync_model.specs.Trees.{by_side};
 ghost use Rattle.bisync_model.specs.Changes.{changes_of};
-ghost use Rattle.bisync_device.specs.Faults.{HasCause};
+ghost use Rattle.bisync_device.specs.Faults.{HasCause, Rose};
 ghost use Rattle.bisync_transfer.specs.StepEffect.{changed_side};
 ghost use Rattle.bisync_transfer.specs.StepTrees.{AreDone};
 ghost use Rattle.bisync_work.specs.Locks.{ChangesLock};
 ghost use Rattle.bisync_run.specs.Counts.{counts, HasCauses};
-ghost use Rattle.bisync_run.specs.Stepping.{IsPartDone, FindsAll, IsStepEnd, IsDeviceFault, MovedDiffers, TellsStep, IsKept, path_of, end_of_step};
+ghost use Rattle.bisync_run.specs.LockNew.{KeepsLockNew};
+ghost use Rattle.bisync_run.specs.Stepping.{IsPartDone, FindsAll, IsStepEnd, IsDeviceFault, MovedDiffers, MovedIsRead, TellsStep, IsKept, path_of, end_of_step};
 
 use bisync_device::{Clock, Failed, Remote, Work};
 use bisync_report::End;
@@ -54,8 +55,10 @@ pub fn do_steps<A: Remote, B: Remote, W: Work, C: Clock>(
     ensures end { IfErr result IsStepEnd }
     ensures found { IsTrue A.tells → IsTrue B.tells → FindsAll steps.items (by_side (A.state one.old) (B.state two.old)) → IfErr result IsDeviceFault }
     ensures moved { IfErr result MovedDiffers }
+    ensures read { IfErr result MovedIsRead }
     ensures told { IfErr result (TellsStep steps.items) }
     ensures lock { IsTrue W.tells → ChangesLock (W.state work.old).folder (W.state work.new).folder }
+    ensures lock_new { IsTrue W.tells → (Rose (W.state work.old).faults (W.state work.new).faults → ⊥) → KeepsLockNew (W.state work.old).folder (W.state work.new).folder }
     ensures windows { ((A.state one.new).window ≡ (A.state one.old).window) × ((B.state two.new).window ≡ (B.state two.old).window) }
     ensures moment { IsTrue C.tells → C.moment clock.new ≡ C.moment clock.old }
     ensures left1 { (A.state one.old).left ≡ None → (A.state one.new).left ≡ None }

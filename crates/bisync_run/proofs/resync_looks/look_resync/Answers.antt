@@ -5,7 +5,8 @@ use Rattle.bisync_model.specs.Views.{resync_known_of}
 use Rattle.bisync_plan.specs.Plans.{header_of}
 use Rattle.bisync_run.specs.Sides.{sides_of}
 use Rattle.bisync_run.proofs.CauseLaws.{follows, fails, nothing_failed, not_planned}
-use Rattle.bisync_run.proofs.PreparedResync.{listable, has_passing, plan_of_sides, fault_of_sides, not_refused, no_plan_end, no_plan_grounds}
+use Rattle.bisync_run.proofs.PreparedResync.{listable, has_passing, plan_of_sides, fault_of_sides, not_refused, no_plan_end, no_plan_grounds, no_plan_kind}
+use Rattle.bisync_run.proofs.ToldGrounds.{unlooked_told, unplanned_told}
 use Rattle.bisync_run.proofs.resync_looks.look_resync.Goals as goal
 
 pub returns-in-Err-clause-causes : goal.returns-in-Err-clause-causes
@@ -64,3 +65,21 @@ returns-clause-grounds g c =
     no_plan_grounds (resync_known_of c.args.mode compare passes c.window.result c.window-2.result c.in-Ok-look_at_both.seen.one.listing c.in-Ok-look_at_both.seen.two.listing) (header_of c.in-Ok.stamp compare)
     c.args.limits.now (by_side g.A.Remote.tells g.B.Remote.tells) c.in-Err-made.fault c.refused.result c.refused.ensures
     (c.in-Err-made.ensures.fault passes (has_passing _ _ _ seen.is_seen1.passing) (has_passing _ _ _ seen.is_seen2.passing))
+
+pub returns-clause-kind : goal.returns-clause-kind
+returns-clause-kind g c =
+    let passes = rules_pass c.args.rules.now in
+    let compare = c.run_compare-compare.result in
+    let seen = c.in-Ok-look_at_both.ensures in
+    no_plan_kind (resync_known_of c.args.mode compare passes c.window.result c.window-2.result c.in-Ok-look_at_both.seen.one.listing c.in-Ok-look_at_both.seen.two.listing) (header_of c.in-Ok.stamp compare)
+    c.args.limits.now.listing c.in-Err-made.fault c.refused.result c.refused.ensures
+    (c.in-Err-made.ensures.fault passes (has_passing _ _ _ seen.is_seen1.passing) (has_passing _ _ _ seen.is_seen2.passing))
+
+pub returns-in-Err-look_at_both-clause-told : goal.returns-in-Err-look_at_both-clause-told
+returns-in-Err-look_at_both-clause-told g c =
+    unlooked_told (by_side g.A.Remote.tells g.B.Remote.tells) (by_side (g.A.Remote.state c.args.one.now) (g.B.Remote.state c.args.two.now))
+    c.run_compare-compare.result (rules_pass c.args.rules.now) c.args.limits.now c.in-Err-look_at_both.end c.in-Err-look_at_both.ensures.refusal
+
+pub returns-clause-told : goal.returns-clause-told
+returns-clause-told g c =
+    unplanned_told (by_side g.A.Remote.tells g.B.Remote.tells) (by_side (g.A.Remote.state c.args.one.now) (g.B.Remote.state c.args.two.now)) c.in-Err-made.fault c.refused.result c.refused.ensures

@@ -2,7 +2,8 @@ use Rattle.std.proofs.Common.{◌++◌, ◌<◌, ◌^◌, ◌∙◌, ap, refl, i
 use Rattle.bisync_tree.specs.declared.sides.Side.TheVariants.{One, Two}
 use Rattle.bisync_model.specs.Trees.{by_side}
 use Rattle.bisync_run.proofs.EndCases.{device_answers, step_may_change}
-use Rattle.bisync_run.proofs.HeldLaws.{untouched, same_windows, are_within, base_held, done_held, trees_held, finds_held, lines_held, numbers_held}
+use Rattle.bisync_run.proofs.HeldLaws.{untouched, same_windows, are_within, aside_held, base_held, done_held, trees_held, finds_held, lines_held, numbers_held}
+use Rattle.bisync_run.proofs.ToldGrounds.{step_told}
 use Rattle.bisync_run.proofs.resyncs.resync.Goals as goal
 
 pub returns-in-Ok-carry_out-clause-base : goal.returns-in-Ok-carry_out-clause-base
@@ -51,6 +52,13 @@ returns-in-Ok-carry_out-clause-resynced g c one two work dry =
     (by_side (g.A.Remote.state c.carry_out.new.one) (g.B.Remote.state c.carry_out.new.two)) c.args.entered.now.digest
     (c.in-Ok-carry_out.ensures.carried_out work c.args.limits.now.listing small fits) (c.in-Ok-carry_out.ensures.rest work) (c.in-Ok-carry_out.ensures.done one two)
 
+pub returns-in-Ok-carry_out-clause-set_aside : goal.returns-in-Ok-carry_out-clause-set_aside
+returns-in-Ok-carry_out-clause-set_aside g c work dry =
+    let small : c.args.limits.now.listing < 2 ^ 64 = omega arith in
+    let fits = are_within c.args.limits.now c.in-Ok.prepared c.in-Ok.ensures.within1 c.in-Ok.ensures.within2 in
+    aside_held c.args.limits.now.listing c.in-Ok.prepared c.args.entered.now.digest (g.W.Work.state c.args.work.now).folder (g.W.Work.state c.look_resync.new.work).folder (g.W.Work.state c.carry_out.new.work).folder
+    (c.in-Ok.ensures.folder work) (c.in-Ok-carry_out.ensures.carried_out work c.args.limits.now.listing small fits)
+
 pub returns-in-Ok-carry_out-clause-good : goal.returns-in-Ok-carry_out-clause-good
 returns-in-Ok-carry_out-clause-good g c one two =
     let a = g.A.Remote.state c.args.one.now in
@@ -60,10 +68,11 @@ returns-in-Ok-carry_out-clause-good g c one two =
     let looked = untouched a b a2 b2 (c.in-Ok.ensures.one.tree one) (c.in-Ok.ensures.two.tree two) in
     let windows = same_windows a b a2 b2 c.in-Ok.ensures.one.window c.in-Ok.ensures.two.window in
     let f = (g.W.Work.state c.args.work.now).folder in
-    let plan = c.in-Ok.ensures.plan one two in
-    (c.if-opts.false,
-    numbers_held c.args.mode c.args.limits.now c.args.opts.now.compare c.args.entered.now.rules a b a2 b2 f f c.in-Ok.prepared plan looked windows refl One c.in-Ok-carry_out.changes.one c.in-Ok-carry_out.ensures.changes.0,
-    numbers_held c.args.mode c.args.limits.now c.args.opts.now.compare c.args.entered.now.rules a b a2 b2 f f c.in-Ok.prepared plan looked windows refl Two c.in-Ok-carry_out.changes.two c.in-Ok-carry_out.ensures.changes.1)
+    let plan = c.in-Ok.ensures.plan one two in (
+      c.if-opts.false,
+      numbers_held c.args.mode c.args.limits.now c.args.opts.now.compare c.args.entered.now.rules a b a2 b2 f f c.in-Ok.prepared plan looked windows refl One c.in-Ok-carry_out.changes.one c.in-Ok-carry_out.ensures.changes.0,
+      numbers_held c.args.mode c.args.limits.now c.args.opts.now.compare c.args.entered.now.rules a b a2 b2 f f c.in-Ok.prepared plan looked windows refl Two c.in-Ok-carry_out.changes.two c.in-Ok-carry_out.ensures.changes.1,
+    )
 
 pub returns-clause-base : goal.returns-clause-base
 returns-clause-base g c one two work =
@@ -107,6 +116,19 @@ returns-clause-answers g c one two work =
     device_answers c.args.mode c.args.limits.now f _ c.in-Err-carry_out.end
     (c.in-Err-carry_out.ensures.found one two (finds_held c.args.mode c.args.limits.now c.args.opts.now.compare c.args.entered.now.rules a b a2 b2 f f2 c.in-Ok.prepared (c.in-Ok.ensures.plan one two) looked windows (c.in-Ok.ensures.folder work)))
 
+pub returns-clause-told : goal.returns-clause-told
+returns-clause-told g c =
+    let a = g.A.Remote.state c.args.one.now in
+    let b = g.B.Remote.state c.args.two.now in
+    let a2 = g.A.Remote.state c.look_resync.new.one in
+    let b2 = g.B.Remote.state c.look_resync.new.two in
+    let windows = same_windows a b a2 b2 c.in-Ok.ensures.one.window c.in-Ok.ensures.two.window in
+    let f = (g.W.Work.state c.args.work.now).folder in
+    step_told (by_side g.A.Remote.tells g.B.Remote.tells) (by_side a b) c.in-Err-carry_out.end c.in-Err-carry_out.ensures.end c.in-Err-carry_out.ensures.read
+    (λ one two. c.in-Err-carry_out.ensures.found one two
+    (finds_held c.args.mode c.args.limits.now c.args.opts.now.compare c.args.entered.now.rules a b a2 b2 f f c.in-Ok.prepared (c.in-Ok.ensures.plan one two)
+    (untouched a b a2 b2 (c.in-Ok.ensures.one.tree one) (c.in-Ok.ensures.two.tree two)) windows refl))
+
 pub returns-clause-report : goal.returns-clause-report
 returns-clause-report g c one two sink =
     let a = g.A.Remote.state c.args.one.now in
@@ -116,7 +138,9 @@ returns-clause-report g c one two sink =
     let looked = untouched a b a2 b2 (c.in-Ok.ensures.one.tree one) (c.in-Ok.ensures.two.tree two) in
     let windows = same_windows a b a2 b2 c.in-Ok.ensures.one.window c.in-Ok.ensures.two.window in
     let f = (g.W.Work.state c.args.work.now).folder in
-    inr (inr (step_may_change c.in-Err-carry_out.end c.in-Err-carry_out.ensures.end,
-    c.in-Ok-plan_lines.ensures.bytes sink
-    ∙ ap (λ (l : List ℕ). (g.S.Sink.state c.args.sink.now).bytes ++ l)
-    (lines_held c.args.mode c.args.limits.now c.args.opts.now.compare c.args.entered.now.rules a b a2 b2 f f c.in-Ok.prepared (c.in-Ok.ensures.plan one two) looked windows refl)))
+    inr (inr (
+      step_may_change c.in-Err-carry_out.end c.in-Err-carry_out.ensures.end,
+      c.in-Ok-plan_lines.ensures.bytes sink
+          ∙ ap (λ (l : List ℕ). (g.S.Sink.state c.args.sink.now).bytes ++ l)
+          (lines_held c.args.mode c.args.limits.now c.args.opts.now.compare c.args.entered.now.rules a b a2 b2 f f c.in-Ok.prepared (c.in-Ok.ensures.plan one two) looked windows refl),
+    ))

@@ -1,7 +1,9 @@
-use Rattle.std.proofs.Common.{Ok, Err, refl, sym, ◌∙◌, subst}
+use Rattle.std.proofs.Common.{Ok, Err, ℕ, refl, sym, ◌∙◌, subst}
+use Rattle.bisync_device.specs.Faults.{Rose}
 use Rattle.bisync_tree.specs.declared.sides.Side.TheVariants.{One, Two}
-use Rattle.bisync_run.specs.Stepping.{IsDeviceFault, MovedDiffers}
-use Rattle.bisync_run.proofs.StepEnds.{found_end, moved_differs}
+use Rattle.bisync_run.specs.Stepping.{IsDeviceFault, MovedDiffers, MovedIsRead}
+use Rattle.bisync_run.proofs.LockNewLaws.{lock_new_twice, kept_lock_new}
+use Rattle.bisync_run.proofs.StepEnds.{found_end, moved_differs, moved_is_read}
 use Rattle.bisync_run.proofs.StepsDone.{part_now, done_now, both, going_next, keeping_next, fewer_left, none_left, split_here, part_end, causes_end, causes_lock, causes_none}
 use Rattle.bisync_run.proofs.steps.do_steps.Goals as goal
 
@@ -24,6 +26,10 @@ returns-in-Err-clause-causes g c =
     let i = c.loop-step.invariant in
     causes_lock _ _ _ _ _ _ _ (i.2.faults One) (i.2.faults Two) i.3.faults c.in-Err.ensures.cause
 
+pub returns-in-Err-clause-lock_new : goal.returns-in-Err-clause-lock_new
+returns-in-Err-clause-lock_new g c t never =
+    absurd (never (subst (λ (n : ℕ). Rose n (g.W.Work.state c.keep_lock.new.work).faults) c.loop-step.invariant.3.faults (c.in-Err.ensures.cause.rose refl)))
+
 -- # The step was not done, or may not have been
 
 pub returns-in-Err-perform-clause-part : goal.returns-in-Err-perform-clause-part
@@ -39,6 +45,9 @@ returns-in-Err-perform-clause-found g c = λ one two all.
 
 pub returns-in-Err-perform-clause-moved : goal.returns-in-Err-perform-clause-moved
 returns-in-Err-perform-clause-moved g c = subst MovedDiffers (sym c.end_of.ensures) (moved_differs _ c.in-Some.step _ c.in-Err-perform.fault c.in-Err-perform.ensures.moved)
+
+pub returns-in-Err-perform-clause-read : goal.returns-in-Err-perform-clause-read
+returns-in-Err-perform-clause-read g c = subst MovedIsRead (sym c.end_of.ensures) (moved_is_read _ c.in-Some.step _ c.in-Err-perform.fault c.in-Err-perform.ensures.moved)
 
 pub returns-in-Err-perform-clause-windows : goal.returns-in-Err-perform-clause-windows
 returns-in-Err-perform-clause-windows g c =
@@ -58,6 +67,10 @@ returns-in-Err-perform-clause-causes g c =
     let e = c.in-Err-perform.ensures in
     causes_end _ _ _ _ _ _ _ _ c.in-Some.step c.in-Err-perform.fault _ c.end_of.ensures (i.2.faults One) (i.2.faults Two) e.one.cause e.two.cause (c.in-Ok.ensures.cause.kept refl ∙ i.3.faults)
 
+pub returns-in-Err-perform-clause-lock_new : goal.returns-in-Err-perform-clause-lock_new
+returns-in-Err-perform-clause-lock_new g c t never =
+    lock_new_twice (c.loop-step.invariant.3.lock_new t) (kept_lock_new c.in-Ok.ensures.kept t)
+
 -- # The step was done
 
 pub loop-step-preserved-in-Ok-perform : goal.loop-step-preserved-in-Ok-perform
@@ -68,7 +81,7 @@ loop-step-preserved-in-Ok-perform g c =
       tt,
       tt,
       going_next _ _ _ _ _ _ _ _ _ i.2 c.in-Some.ensures.steps.0 c.in-Ok-perform.field-0 (both (Ok c.in-Ok-perform.field-0) _ _ e.one e.two) e.effect,
-      keeping_next _ _ _ _ i.3 k.lock k.left k.cause,
+      keeping_next _ _ _ _ i.3 k.lock (kept_lock_new k.kept) k.left k.cause,
       λ told. k.moment told ∙ i.4 told,
       fewer_left _ _ _ _ _ i.5 c.in-Some.ensures.steps.0 c.in-Some.ensures.steps.1,
     )
@@ -81,7 +94,7 @@ loop-step-preserved-in-Ok-perform-2 g c =
       tt,
       tt,
       going_next _ _ _ _ _ _ _ _ _ i.2 c.in-Some.ensures.steps.0 c.in-Ok-perform.field-0 (both (Ok c.in-Ok-perform.field-0) _ _ e.one e.two) e.effect,
-      keeping_next _ _ _ _ i.3 k.lock k.left k.cause,
+      keeping_next _ _ _ _ i.3 k.lock (kept_lock_new k.kept) k.left k.cause,
       λ told. k.moment told ∙ i.4 told,
       fewer_left _ _ _ _ _ i.5 c.in-Some.ensures.steps.0 c.in-Some.ensures.steps.1,
     )
@@ -94,7 +107,7 @@ loop-step-preserved g c =
       tt,
       tt,
       going_next _ _ _ _ _ _ _ _ _ i.2 c.in-Some.ensures.steps.0 c.in-Ok-perform.field-0 (both (Ok c.in-Ok-perform.field-0) _ _ e.one e.two) e.effect,
-      keeping_next _ _ _ _ i.3 k.lock k.left k.cause,
+      keeping_next _ _ _ _ i.3 k.lock (kept_lock_new k.kept) k.left k.cause,
       λ told. k.moment told ∙ i.4 told,
       fewer_left _ _ _ _ _ i.5 c.in-Some.ensures.steps.0 c.in-Some.ensures.steps.1,
     )
@@ -108,6 +121,9 @@ returns-clause-done g c =
 
 pub returns-clause-part : goal.returns-clause-part
 returns-clause-part g c = part_now _ _ _ _ _ _ c.loop-step.invariant.2
+
+pub returns-clause-lock_new : goal.returns-clause-lock_new
+returns-clause-lock_new g c t never = c.loop-step.invariant.3.lock_new t
 
 pub returns-clause-windows : goal.returns-clause-windows
 returns-clause-windows g c = (c.loop-step.invariant.2.windows One, c.loop-step.invariant.2.windows Two)

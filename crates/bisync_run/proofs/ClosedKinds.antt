@@ -1,0 +1,127 @@
+-- What the kind of an end tells of it, from a held course to the run.
+use Rattle.std.proofs.Common.{◌≡◌, ◌≤◌, ◌∙◌, ap, subst, sym, refl, inl, inr, arith, Bool, true, false, List, ℕ, Option, None, Result, Ok, Err}
+use Rattle.std.specs.Prelude.{IfOk, IfErr, IsOk}
+use Rattle.bisync_device.specs.Faults.{Rose}
+use Rattle.bisync_device.specs.WorkFolder.{Absent, WorkFolder, Held}
+use Rattle.bisync_filter.specs.declared.rule_lists.Rule.{Rule}
+use Rattle.bisync_opts.specs.declared.options.Opts.{Opts}
+use Rattle.bisync_report.specs.declared.ends.End.{End}
+use Rattle.bisync_work.specs.Locks.{ChangesLock}
+use Rattle.bisync_work.specs.Moves.{but_fallen, moved_over}
+use Rattle.bisync_run.specs.CarryingOut.{AreSetAside}
+use Rattle.bisync_run.specs.Closing.{ClosesWith, Closes, EndsWith, Unlocks, but_fallen_or_lock}
+use Rattle.bisync_run.specs.Counts.{Counts, Stops}
+use Rattle.bisync_run.specs.EndKinds.{is_good, has_freed, is_unlocked, lets_fall, falls_at_close, may_have_changed, may_tell_plan}
+use Rattle.bisync_run.specs.FilterRules.{AreRulesOf}
+use Rattle.bisync_run.specs.HeldResyncs.{end_of}
+use Rattle.bisync_run.specs.LockNew.{KeepsLockNew}
+use Rattle.bisync_run.specs.ResyncEnds.{IsResyncEnd}
+use Rattle.bisync_run.specs.ResyncRuns.{AreSetAsideBy}
+use Rattle.bisync_run.proofs.EndCases.{false_true}
+use Rattle.bisync_run.proofs.EndKindLaws.{good_stays, good_has_freed, freed_is_after_good}
+use Rattle.bisync_run.proofs.EndLaws.{rose_within, le_same, stops_not_after_good}
+
+-- # Counts that didn't rise
+
+pub no_rise_last : (a b c d : ℕ) → (Rose a d → ⊥) → a ≤ b → b ≤ c → Rose c d → ⊥
+no_rise_last a b c d never first second rose = never (rose_within a c d d (omega arith) (le_same d) rose)
+
+pub no_rise_mid : (a b c d : ℕ) → (Rose a d → ⊥) → a ≤ b → c ≤ d → Rose b c → ⊥
+no_rise_mid a b c d never first last rose = never (rose_within a b c d first last rose)
+
+pub no_rise_first : (a b c : ℕ) → (Rose a c → ⊥) → b ≤ c → Rose a b → ⊥
+no_rise_first a b c never later rose = never (rose_within a a b c (le_same a) later rose)
+
+-- # The close
+
+pub falls_closed : (resilient dry_run : Bool) (ended : Result End End) (closed : End) → ClosesWith ended closed → lets_fall resilient dry_run closed ≡ false → falls_at_close resilient dry_run ended ≡ false
+falls_closed resilient dry_run (Ok end) closed is stays = refl
+falls_closed resilient dry_run (Err end) closed same stays = ap (lets_fall resilient dry_run) (sym same) ∙ stays
+
+pub fell_closed : (resilient dry_run : Bool) (ended : Result End End) (closed : End) → IfOk ended (λ end. is_good end ≡ true) → ClosesWith ended closed → lets_fall resilient dry_run closed ≡ true
+    → falls_at_close resilient dry_run ended ≡ true
+fell_closed resilient dry_run (Ok end) closed well (inl same) fell = absurd (good_stays resilient dry_run end well (ap (lets_fall resilient dry_run) (sym same) ∙ fell))
+fell_closed resilient dry_run (Ok end) closed well (inr left) fell = false_true (sym (ap (lets_fall resilient dry_run) left) ∙ fell)
+fell_closed resilient dry_run (Err end) closed well same fell = ap (lets_fall resilient dry_run) (sym same) ∙ fell
+
+pub quiet_closed : (ended : Result End End) (closed : End) → ClosesWith ended closed → may_tell_plan closed ≡ false → may_tell_plan (end_of ended) ≡ false
+quiet_closed (Ok end) closed (inl same) quiet = ap may_tell_plan (sym same) ∙ quiet
+quiet_closed (Ok end) closed (inr left) quiet = false_true (sym quiet ∙ ap may_tell_plan left)
+quiet_closed (Err end) closed same quiet = ap may_tell_plan (sym same) ∙ quiet
+
+pub own_closed : (opts : Opts) (ended : Result End End) (closed : End) → ClosesWith ended closed → IsResyncEnd opts (end_of ended) → IsResyncEnd opts closed
+own_closed opts (Ok end) closed (inl same) own = subst (IsResyncEnd opts) (sym same) own
+own_closed opts (Ok end) closed (inr left) own = subst (IsResyncEnd opts) (sym left) tt
+own_closed opts (Err end) closed same own = subst (IsResyncEnd opts) (sym same) own
+
+pub locked_closed : (ended : Result End End) (closed : End) → ClosesWith ended closed → is_unlocked (end_of ended) ≡ false → is_unlocked closed ≡ true → ⊥
+locked_closed (Ok end) closed (inl same) locked un = false_true (sym locked ∙ ap is_unlocked (sym same) ∙ un)
+locked_closed (Ok end) closed (inr left) locked un = false_true (sym (ap is_unlocked left) ∙ un)
+locked_closed (Err end) closed same locked un = false_true (sym locked ∙ ap is_unlocked (sym same) ∙ un)
+
+-- a lock that was removed in any case was removed after a good end
+pub freed_was_good : (old mid : Counts) (ended : Result End End) (closed : End) → IfOk ended (λ end. is_good end ≡ true) → IfErr ended (Stops old mid) → ClosesWith ended closed → has_freed closed ≡ true
+    → IsOk ended × (is_good closed ≡ true)
+freed_was_good old mid (Ok end) closed well stops (inl same) freed = (refl, ap is_good same ∙ well)
+freed_was_good old mid (Ok end) closed well stops (inr left) freed = false_true (sym (ap has_freed left) ∙ freed)
+freed_was_good old mid (Err end) closed well stops same freed =
+    absurd (stops_not_after_good old mid end stops (freed_is_after_good end (ap has_freed (sym same) ∙ freed)))
+
+-- # The folder
+
+pub fallen_same : (f g : WorkFolder) → ChangesLock f g → but_fallen_or_lock g ≡ but_fallen_or_lock f
+fallen_same f g changes = ap but_fallen changes.rest
+
+pub fallen_closed : (f f2 g h : WorkFolder) → ChangesLock f f2 → g ≡ f2 → Closes g h → but_fallen_or_lock h ≡ but_fallen_or_lock f
+fallen_closed f f2 g h changes same closes =
+    ap (λ (w : WorkFolder). record w { lock_new = Absent }) closes.rest ∙ ap but_fallen_or_lock same ∙ fallen_same f f2 changes
+
+pub lock_new_closed : (g h : WorkFolder) → Closes g h → KeepsLockNew g h
+lock_new_closed g h closes = record { kept = inl (ap (λ (w : WorkFolder). w.lock_new) closes.rest) }
+
+no_digest_of : (name : Option (List ℕ)) (filters : Held) (rules : List Rule) (digest : Option (List ℕ)) → AreRulesOf name filters rules digest → name ≡ None → digest ≡ None
+no_digest_of name filters rules digest are none = (subst (λ (n : Option (List ℕ)). AreRulesOf n filters rules digest) none are).1
+
+pub no_digest_closed : (name : Option (List ℕ)) (rules : List Rule) (digest : Option (List ℕ)) (f f2 g h : WorkFolder) → AreRulesOf name f.filters rules digest → name ≡ None
+    → ChangesLock f f2 → (digest ≡ None → g.filters_md5 ≡ f2.filters_md5) → Closes g h → h.filters_md5 ≡ f.filters_md5
+no_digest_closed name rules digest f f2 g h are none changes kept closes =
+    ap (λ (w : WorkFolder). w.filters_md5) closes.rest ∙ kept (no_digest_of name f.filters rules digest are none) ∙ ap (λ (w : WorkFolder). w.filters_md5) changes.rest
+
+pub aside_closed : (opts : Opts) (rules : List Rule) (digest : Option (List ℕ)) (f f2 g h : WorkFolder) → AreRulesOf opts.filters f.filters rules digest
+    → ChangesLock f f2 → AreSetAside digest f2 g → Unlocks g h → AreSetAsideBy opts f h
+aside_closed opts rules digest f f2 g h are changes x unlocks = (
+  rules,
+  digest,
+  are,
+  record {
+    one_old = ap (λ (w : WorkFolder). w.one_old) unlocks.rest ∙ x.one_old;
+    two_old = ap (λ (w : WorkFolder). w.two_old) unlocks.rest ∙ x.two_old;
+    one_new = ap (λ (w : WorkFolder). w.one_new) unlocks.rest ∙ x.one_new;
+    two_new = ap (λ (w : WorkFolder). w.two_new) unlocks.rest ∙ x.two_new;
+    one_err = ap (λ (w : WorkFolder). w.one_err) unlocks.rest ∙ x.one_err ∙ ap (λ (w : WorkFolder). moved_over w.one (moved_over w.one_old w.one_err)) changes.rest;
+    two_err = ap (λ (w : WorkFolder). w.two_err) unlocks.rest ∙ x.two_err ∙ ap (λ (w : WorkFolder). moved_over w.two (moved_over w.two_old w.two_err)) changes.rest;
+    stored = ap (λ (w : WorkFolder). w.filters_md5) unlocks.rest ∙ x.stored ∙ ap (λ (w : WorkFolder). Rattle.bisync_run.specs.ResyncWriting.stored digest w.filters_md5) changes.rest;
+  },
+)
+
+-- # The last line
+
+pub own_told : (opts : Opts) (end last : End) → EndsWith end last → IsResyncEnd opts end → IsResyncEnd opts last
+own_told opts end last (inl same) own = subst (IsResyncEnd opts) (sym same) own
+own_told opts end last (inr lost) own = subst (IsResyncEnd opts) (sym lost.1) tt
+
+pub early_told : (end last : End) → EndsWith end last → may_have_changed last ≡ false → last ≡ end
+early_told end last (inl same) early = same
+early_told end last (inr lost) early = false_true (sym early ∙ ap may_have_changed lost.1)
+
+pub fell_told : (resilient dry_run : Bool) (end last : End) → EndsWith end last → lets_fall resilient dry_run last ≡ true → last ≡ end
+fell_told resilient dry_run end last (inl same) fell = same
+fell_told resilient dry_run end last (inr lost) fell = false_true (sym (ap (lets_fall resilient dry_run) lost.1) ∙ fell)
+
+pub freed_told : (end last : End) → EndsWith end last → has_freed last ≡ true → has_freed end ≡ true
+freed_told end last (inl same) freed = ap has_freed (sym same) ∙ freed
+freed_told end last (inr lost) freed = good_has_freed end lost.0
+
+pub unlocked_told : (end last : End) → EndsWith end last → is_unlocked last ≡ true → last ≡ end
+unlocked_told end last (inl same) un = same
+unlocked_told end last (inr lost) un = false_true (sym (ap is_unlocked lost.1) ∙ un)
