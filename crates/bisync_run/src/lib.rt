@@ -12,6 +12,8 @@ mod resync_writes;
 mod resyncs;
 mod runs;
 mod steps;
+#[cfg(test)]
+mod tests;
 
 pub use refusal_laws::resync_refusals_are_exclusive;
 pub use runs::run;

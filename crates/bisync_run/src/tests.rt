@@ -1,0 +1,6 @@
+mod devices;
+mod failures;
+mod refusals;
+mod renewals;
+mod resyncs;
+mod untold;
