@@ -18,3 +18,4 @@ pub mod StepEnds
 pub mod StepsDone
 pub mod ClosedEnds
 pub mod ToldEnds
+pub mod BuiltEnds

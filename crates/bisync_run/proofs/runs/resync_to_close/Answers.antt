@@ -9,6 +9,7 @@ use Rattle.bisync_run.proofs.ClosedEnds.{on_ok, falls_ok, falls_dry, changes_clo
 use Rattle.bisync_run.proofs.DoneSteps.{untouched_same}
 use Rattle.bisync_run.proofs.LockedFolders.{base_past}
 use Rattle.bisync_run.proofs.RunEnds.{after_good_was_ok}
+use Rattle.bisync_run.proofs.BuiltEnds.{unlocked_built, closed_built}
 use Rattle.bisync_run.proofs.runs.resync_to_close.Goals as goal
 
 pub returns-in-Err-clause-base : goal.returns-in-Err-clause-base
@@ -110,6 +111,12 @@ returns-clause-dry g c work dry =
     changes_closed (g.W.Work.state c.args.work.now).folder (g.W.Work.state c.enter.new.work).folder (g.W.Work.state c.resync-ended.new.work).folder (g.W.Work.state c.close.new.work).folder
     (c.in-Ok.ensures.others work) (c.resync-ended.ensures.dry dry work)
     (c.close.ensures.kept work (falls_dry c.args.opts.now.resilient c.args.opts.now.dry_run c.resync-ended.result dry))
+
+pub returns-in-Err-clause-built : goal.returns-in-Err-clause-built
+returns-in-Err-clause-built g c = unlocked_built c.in-Err.end c.in-Err.ensures.only
+
+pub returns-clause-built : goal.returns-clause-built
+returns-clause-built g c = closed_built _ _ c.resync-ended.result c.close.result c.resync-ended.ensures.well c.resync-ended.ensures.causes.fault c.close.ensures.end
 
 pub returns-clause-report : goal.returns-clause-report
 returns-clause-report g c one two sink work =

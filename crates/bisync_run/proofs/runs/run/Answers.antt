@@ -5,6 +5,7 @@ use Rattle.bisync_report.specs.LastLine.{last_text}
 use Rattle.bisync_report.specs.declared.ends.End.{End}
 use Rattle.bisync_run.specs.EndKinds.{is_good}
 use Rattle.bisync_run.specs.ResyncRuns.{AnswersRun, HasNoRefusal, IsResyncedBy, HasNumbers, LeavesBaseOf, LeavesTreesOf, TellsRun}
+use Rattle.bisync_run.proofs.BuiltEnds.{told_built}
 use Rattle.bisync_run.proofs.ClosedEnds.{tells_last}
 use Rattle.bisync_run.proofs.EndLaws.{no_rise_since}
 use Rattle.bisync_run.proofs.ToldEnds.{some_same, after_good_told, good_told, told_same, answers_told, images}
@@ -76,6 +77,9 @@ returns-clause-trees g c one two work mode is =
     let now = by_side (g.A.Remote.state c.resync_to_close-end.new.one) (g.B.Remote.state c.resync_to_close-end.new.two) in
     let same = some_same c.in-Some.mode mode (sym c.in-Some.is ∙ is) in
     subst (λ (m : Prefer). LeavesTreesOf m c.args.opts.now c.args.limits.now f start g.C.Clock.tells (g.C.Clock.moment c.args.clock.now) now) same (c.resync_to_close-end.ensures.trees one two work)
+
+pub returns-clause-built : goal.returns-clause-built
+returns-clause-built g c mode is = told_built c.resync_to_close-end.result c.tell_end-2.result c.resync_to_close-end.ensures.built c.tell_end-2.ensures.end
 
 pub returns-clause-report : goal.returns-clause-report
 returns-clause-report g c one two sink work mode is never =
