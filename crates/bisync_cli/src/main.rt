@@ -3,7 +3,6 @@
 
 mod answers;
 mod arguments;
-mod runs;
 mod tasks;
 #[cfg(test)]
 mod tests;
