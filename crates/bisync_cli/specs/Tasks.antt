@@ -1,5 +1,5 @@
 -- What the words ask for.
-use Rattle.std.specs.Prelude.{ℕ, ⊤, Bool, true, false, not, ◌&&◌, List, [], ◌∷◌, Option, Some, None, Result, Ok, Err, codes, is_some, if◌then◌else◌}
+use Rattle.std.specs.Prelude.{◌≡◌, ℕ, ⊤, Bool, true, false, not, ◌&&◌, List, [], ◌∷◌, Option, Some, None, Result, Ok, Err, codes, is_some, if◌then◌else◌}
 use Rattle.bisync_opts.specs.Choices.{chosen}
 use Rattle.bisync_opts.specs.Options.{options_of}
 use Rattle.bisync_opts.specs.Ranges.{IsInRange}
@@ -40,9 +40,9 @@ abbrev pub task_in : List (List ℕ) → Result Task UsageKind
 task_in [] = Err usage.Command
 task_in (first ∷ rest) = task_behind (command_of first) rest
 
--- the options of a run are in their ranges
+-- the options of a run are in their ranges, and this version makes that run
 abbrev pub IsTaskInRange : Task → Type 0
-IsTaskInRange (Run opts) = IsInRange opts
+IsTaskInRange (Run opts) = IsInRange opts × (is_built opts ≡ true)
 IsTaskInRange NotBuilt = ⊤
 
 -- what is said of the run that words ask for, with its options

@@ -3,7 +3,7 @@
 
 mod answers;
 mod arguments;
-mod runs;
+mod streams;
 mod tasks;
 #[cfg(test)]
 mod tests;
@@ -15,6 +15,7 @@ use std::process::ExitCode;
 /// Gives the words after the program's name to the top call, with the real devices. Where memory for
 /// the words is refused, nothing is written.
 fn main(rt: HostRuntime) -> ExitCode {
+    let _streams = streams::fill_closed(&rt);
     let alloc = rt.alloc();
     let Ok(words) = arguments::words_of(alloc, &rt) else {
         return ExitCode::from(1);

@@ -1,3 +1,5 @@
 mod arguments;
 mod devices;
+mod folders;
+mod resyncs;
 mod words;

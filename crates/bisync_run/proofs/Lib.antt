@@ -22,3 +22,4 @@ pub mod ToldEnds
 pub mod EndKindLaws
 pub mod ClosedKinds
 pub mod ToldGrounds
+pub mod BuiltEnds

@@ -1,6 +1,6 @@
 //! One run.
 
-ghost use Rattle.std.specs.Prelude.{◌≡◌, ◌++◌, ℕ, List, [], IsTrue, None, Some, true, false};
+ghost use Rattle.std.specs.Prelude.{◌≡◌, ◌≢◌, ◌++◌, ℕ, List, [], IsTrue, None, Some, true, false};
 ghost use Rattle.bisync_tree.specs.declared.options.Prefer.{Prefer};
 ghost use Rattle.bisync_model.specs.Trees.{by_side};
 ghost use Rattle.bisync_device.specs.Faults.{Rose};
@@ -79,6 +79,7 @@ fn resync_to_close<A: Remote, B: Remote, W: Work, C: Clock, S: Sink>(
     ensures causes { Ends (counts (A.state one.old).faults (B.state two.old).faults (W.state work.old).faults (S.state sink.old).faults) (counts (A.state one.new).faults (B.state two.new).faults (W.state work.new).faults (S.state sink.new).faults) result }
     ensures quiet { IsTrue S.tells → (Rose (S.state sink.old).faults (S.state sink.new).faults → ⊥) → may_tell_plan result ≡ false → (S.state sink.new).bytes ≡ (S.state sink.old).bytes }
     ensures lines { IsTrue S.tells → (lines : List ℕ) × ((S.state sink.new).bytes ≡ (S.state sink.old).bytes ++ lines) }
+    ensures built { result ≢ End.NotBuilt }
     ensures report { IsTrue A.tells → IsTrue B.tells → IsTrue S.tells → IsTrue W.tells →
         TellsRun mode opts.now (W.state work.old).folder (by_side (A.state one.old) (B.state two.old)) (by_side (A.state one.new) (B.state two.new)) (S.state sink.old).bytes [] (S.state sink.new).bytes result }
 {
@@ -146,6 +147,7 @@ pub fn run<A: Remote, B: Remote, W: Work, C: Clock, S: Sink>(
     ensures causes { Ends (counts (A.state one.old).faults (B.state two.old).faults (W.state work.old).faults (S.state sink.old).faults) (counts (A.state one.new).faults (B.state two.new).faults (W.state work.new).faults (S.state sink.new).faults) result }
     ensures quiet { IsTrue S.tells → (Rose (S.state sink.old).faults (S.state sink.new).faults → ⊥) → may_tell_plan result ≡ false → (S.state sink.new).bytes ≡ (S.state sink.old).bytes ++ last_text result }
     ensures lines { IsTrue S.tells → (Rose (S.state sink.old).faults (S.state sink.new).faults → ⊥) → (lines : List ℕ) × ((S.state sink.new).bytes ≡ ((S.state sink.old).bytes ++ lines) ++ last_text result) }
+    ensures built { (mode : Prefer) → opts.now.resync ≡ Some mode → result ≢ End.NotBuilt }
     ensures report { IsTrue A.tells → IsTrue B.tells → IsTrue S.tells → IsTrue W.tells → (mode : Prefer) → opts.now.resync ≡ Some mode →
         (Rose (S.state sink.old).faults (S.state sink.new).faults → ⊥) →
         TellsRun mode opts.now (W.state work.old).folder (by_side (A.state one.old) (B.state two.old)) (by_side (A.state one.new) (B.state two.new)) (S.state sink.old).bytes (last_text result) (S.state sink.new).bytes result }

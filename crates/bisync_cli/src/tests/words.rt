@@ -1,21 +1,12 @@
 //! Words that are refused, and words that ask for what isn't built. Each test lends its devices to a
 //! function that has the rows, so that it lets them go in one place.
 
-use super::devices::Devices;
+use super::devices::{Devices, words_of};
 use bisync_opts::{OptName, UsageKind};
 use bisync_report::End;
 use bisync_text::Text;
 use std::alloc::Global;
 use std::test::Fail;
-
-/// The words of a line, with a space between them.
-fn words_of(alloc: Global, line: &'static str) -> Result<Vec<Text>, Fail> {
-    let mut words = Vec::new(alloc);
-    for word in line.split(' ').filter(|word| !word.is_empty()) {
-        words.push(Text::from_bytes(alloc, word.as_bytes())?)?;
-    }
-    Ok(words)
-}
 
 /// Whether the end is this refusal of words, or, for None, that what they ask for isn't built.
 fn is_end(end: &End, refusal: Option<UsageKind>) -> bool {

@@ -17,6 +17,7 @@ use Rattle.bisync_run.proofs.LockNewLaws.{lock_new_twice, lock_new_same}
 use Rattle.bisync_run.proofs.LockedFolders.{base_past}
 use Rattle.bisync_run.proofs.RunEnds.{after_good_was_ok}
 use Rattle.bisync_run.proofs.ToldGrounds.{unlocked_told, closed_told}
+use Rattle.bisync_run.proofs.BuiltEnds.{unlocked_built, closed_built}
 use Rattle.bisync_run.proofs.runs.resync_to_close.Goals as goal
 
 pub returns-in-Err-clause-base : goal.returns-in-Err-clause-base
@@ -243,6 +244,12 @@ returns-clause-quiet g c sink never quiet = c.resync-ended.ensures.quiet sink ne
 
 pub returns-clause-lines : goal.returns-clause-lines
 returns-clause-lines g c sink = c.resync-ended.ensures.lines sink
+
+pub returns-in-Err-clause-built : goal.returns-in-Err-clause-built
+returns-in-Err-clause-built g c = unlocked_built c.in-Err.end c.in-Err.ensures.only
+
+pub returns-clause-built : goal.returns-clause-built
+returns-clause-built g c = closed_built _ _ c.resync-ended.result c.close.result c.resync-ended.ensures.well c.resync-ended.ensures.causes.fault c.close.ensures.end
 
 pub returns-clause-report : goal.returns-clause-report
 returns-clause-report g c one two sink work =

@@ -6,6 +6,7 @@ use Rattle.bisync_report.specs.declared.ends.End.{End}
 use Rattle.bisync_run.specs.EndKinds.{is_good, is_unlocked, lets_fall, may_have_changed, may_tell_plan}
 use Rattle.bisync_run.specs.Entering.{IsEntryEndWhere}
 use Rattle.bisync_run.specs.ResyncRuns.{AnswersRun, HasNoRefusal, IsResyncedBy, HasNumbers, LeavesBaseOf, LeavesTreesOf, TellsRun}
+use Rattle.bisync_run.proofs.BuiltEnds.{told_built}
 use Rattle.bisync_run.proofs.ClosedEnds.{tells_last}
 use Rattle.bisync_run.proofs.ClosedKinds.{no_rise_first, own_told, early_told, fell_told, freed_told, unlocked_told}
 use Rattle.bisync_run.proofs.EndLaws.{no_rise_since}
@@ -144,6 +145,9 @@ returns-clause-lines g c sink never =
           ∙ ap (λ (l : List ℕ). l ++ last_text c.resync_to_close-end.result) some.1
           ∙ ap (λ (e : End). (before.bytes ++ some.0) ++ last_text e) (sym told),
     )
+
+pub returns-clause-built : goal.returns-clause-built
+returns-clause-built g c mode is = told_built c.resync_to_close-end.result c.tell_end-2.result c.resync_to_close-end.ensures.built c.tell_end-2.ensures.end
 
 pub returns-clause-report : goal.returns-clause-report
 returns-clause-report g c one two sink work mode is never =

@@ -1,0 +1,80 @@
+-- What is known of the run that words ask for.
+use Rattle.std.proofs.Common.{◌≡◌, ◌∙◌, refl, ap, sym, subst, inl, true, Option, Some, None, Result, Ok, Err}
+use Rattle.std.specs.Prelude.{◌≢◌, is_some}
+use Rattle.std.proofs.lemmas.Bool.{and_parts}
+use Rattle.bisync_tree.specs.declared.options.Limits.{Limits}
+use Rattle.bisync_tree.specs.declared.options.Prefer.{Prefer}
+use Rattle.bisync_device.specs.WorkFolder.{WorkFolder, IsSettled, IsImage}
+use Rattle.bisync_opts.specs.declared.faults.UsageKind.{UsageKind}
+use Rattle.bisync_opts.specs.declared.options.Opts.{Opts}
+use Rattle.bisync_report.specs.declared.ends.End.{End}
+use Rattle.bisync_report.specs.declared.ends.End.TheVariants.{Done, Resynced, DryRun, InSync, Demo, Usage, WorkFault, NoFilters, BadRule, Locked, FiltersChanged, BadListing, NeedResync, ListingsDiffer, EmptyPrior, RemoteFault, BadPath, TooMany, CheckAccess, EmptyCurrent, TooManyDeletes, AllChanged, NameTooLong, ListingTooLong, OutOfSync, Moved, SinkFault, LockLeft, FoldersLeft, KeepFault, Checked, NotBuilt, OutOfMemory}
+use Rattle.bisync_run.specs.Counts.{Counts, Ends}
+use Rattle.bisync_run.specs.ResyncRuns.{LeavesBaseOf}
+use Rattle.bisync_run.specs.Untouched.{Remotes}
+use Rattle.bisync_run.proofs.DoneSteps.{untouched_same}
+use Rattle.bisync_run.proofs.ToldEnds.{images}
+use Rattle.bisync_cli.specs.declared.tasks.Task.{Task}
+use Rattle.bisync_cli.specs.declared.tasks.Task.TheVariants.{Run, NotBuilt as NoTask}
+use Rattle.bisync_cli.specs.Ends.{IsRunEnd, EndsBy}
+use Rattle.bisync_cli.specs.Tasks.{OfRun, IsTaskInRange}
+
+-- what holds by the options that were read is said of the run
+pub of_run : (read : Result Task UsageKind) (Says : Opts → Type 0) (task : Task) (opts : Opts) → read ≡ Ok task → task ≡ Run opts → Says opts → OfRun read Says
+of_run read Says task opts is asks says = subst (λ (r : Result Task UsageKind). OfRun r Says) (sym (is ∙ ap Ok asks)) says
+
+-- an image of an untouched folder has its base, by any options
+pub images_same : (read : Result Task UsageKind) (One Two Works : Type 0) (limits : Limits) (f : WorkFolder) (start : Remotes)
+    → OfRun read (λ opts. One → Two → Works → (mode : Prefer) → opts.resync ≡ Some mode → IsSettled f → (image : WorkFolder) → IsImage f image
+    → LeavesBaseOf mode opts limits f start image start)
+images_same (Ok (Run opts)) One Two Works limits f start =
+    λ one two work mode is settled image image_is. images mode opts limits f start f image start (λ base was. inl (was, untouched_same start)) settled image_is
+images_same (Ok NoTask) One Two Works limits f start = tt
+images_same (Err kind) One Two Works limits f start = tt
+
+-- a run that has its cause, and isn't one that isn't built, refuses no words
+is_run_end : (old new : Counts) (end : End) → Ends old new end → end ≢ NotBuilt → IsRunEnd end
+is_run_end old new (Done one two) ends built = tt
+is_run_end old new (Resynced one two) ends built = tt
+is_run_end old new DryRun ends built = tt
+is_run_end old new InSync ends built = tt
+is_run_end old new Demo ends built = tt
+is_run_end old new (Usage kind) ends built = ends
+is_run_end old new WorkFault ends built = tt
+is_run_end old new NoFilters ends built = tt
+is_run_end old new (BadRule line) ends built = tt
+is_run_end old new (Locked until) ends built = tt
+is_run_end old new (FiltersChanged now stored) ends built = tt
+is_run_end old new (BadListing name line) ends built = tt
+is_run_end old new (NeedResync need) ends built = tt
+is_run_end old new (ListingsDiffer path one two) ends built = tt
+is_run_end old new (EmptyPrior side) ends built = tt
+is_run_end old new (RemoteFault side) ends built = tt
+is_run_end old new (BadPath side text) ends built = tt
+is_run_end old new (TooMany side files bytes) ends built = tt
+is_run_end old new (CheckAccess side path) ends built = tt
+is_run_end old new (EmptyCurrent side) ends built = tt
+is_run_end old new (TooManyDeletes side gone all) ends built = tt
+is_run_end old new (AllChanged side all) ends built = tt
+is_run_end old new (NameTooLong side path) ends built = tt
+is_run_end old new (ListingTooLong side bytes) ends built = tt
+is_run_end old new (OutOfSync path one two) ends built = tt
+is_run_end old new (Moved side path listed read) ends built = tt
+is_run_end old new (SinkFault done) ends built = tt
+is_run_end old new LockLeft ends built = tt
+is_run_end old new (FoldersLeft cause) ends built = tt
+is_run_end old new (KeepFault side) ends built = tt
+is_run_end old new (Checked differ) ends built = tt
+is_run_end old new NotBuilt ends built = built refl
+is_run_end old new OutOfMemory ends built = tt
+
+built_end : (old new : Counts) (end : End) (resync : Option Prefer) → is_some resync ≡ true → ((mode : Prefer) → resync ≡ Some mode → end ≢ NotBuilt) → Ends old new end → IsRunEnd end
+built_end old new end None some built ends = absurd cc
+built_end old new end (Some mode) some built ends = is_run_end old new end ends (built mode refl)
+
+-- the end of a run
+pub ends_run : (read : Result Task UsageKind) (task : Task) (opts : Opts) (old new : Counts) (end : End) → read ≡ Ok task → task ≡ Run opts → IsTaskInRange task
+    → ((mode : Prefer) → opts.resync ≡ Some mode → end ≢ NotBuilt) → Ends old new end → EndsBy read end
+ends_run read task opts old new end is asks range built ends =
+    let makes = (subst IsTaskInRange asks range).1 in
+    subst (λ (r : Result Task UsageKind). EndsBy r end) (sym (is ∙ ap Ok asks)) (built_end old new end opts.resync (and_parts _ _ makes).0 built ends)
