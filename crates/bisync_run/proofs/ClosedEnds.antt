@@ -45,8 +45,8 @@ falls_dry resilient dry_run (Err end) dry =
 pub changes_closed : (f f2 g h : WorkFolder) → ChangesLock f f2 → g ≡ f2 → Unlocks g h → ChangesLock f h
 changes_closed f f2 g h changes same unlocks = record {
   rest = ap (λ (w : WorkFolder). record w { lock_new = Rattle.bisync_device.specs.WorkFolder.Absent }) unlocks.rest
-  ∙ ap (λ (w : WorkFolder). record w { lock = Rattle.bisync_device.specs.WorkFolder.Absent; lock_new = Rattle.bisync_device.specs.WorkFolder.Absent }) same
-  ∙ changes.rest;
+      ∙ ap (λ (w : WorkFolder). record w { lock = Rattle.bisync_device.specs.WorkFolder.Absent; lock_new = Rattle.bisync_device.specs.WorkFolder.Absent }) same
+      ∙ changes.rest;
 }
 
 pub early_closed : (ended : Result End End) (closed : End) → ClosesWith ended closed → may_have_changed closed ≡ false → may_have_changed (end_of ended) ≡ false

@@ -34,8 +34,8 @@ module _ (start mid : Remotes) (looked : AreUntouched start mid) (windows : (sid
   done_since steps now d = record {
     windows = λ side. d.windows side ∙ windows side;
     trees = λ side p. d.trees side p
-    ∙ ap (λ (w : Side → Window). after w steps (trees_in mid) side p) same_windows
-    ∙ ap (λ (t : Trees). after (windows_in start) steps t side p) same_trees;
+        ∙ ap (λ (w : Side → Window). after w steps (trees_in mid) side p) same_windows
+        ∙ ap (λ (t : Trees). after (windows_in start) steps t side p) same_trees;
     changes = λ side. d.changes side ∙ ap (λ (n : ℕ). n + sum_by (changes_of side) steps) (looked side).changes;
   }
 

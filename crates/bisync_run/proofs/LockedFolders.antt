@@ -39,9 +39,13 @@ module _ (f g : WorkFolder) (changes : ChangesLock f g) where
   pub ready_past : (limit : ℕ) (next : Base) → IsReady limit f next → IsReady limit g next
   ready_past limit next r = subst (λ (x : WorkFolder). IsReady limit x next) (sym whole)
       (record {
-        one = r.one; two = r.two; one_synced = r.one_synced; two_synced = r.two_synced;
+        one = r.one;
+        two = r.two;
+        one_synced = r.one_synced;
+        two_synced = r.two_synced;
         unused = record { one = r.unused.one; two = r.unused.two; one_old = r.unused.one_old; two_old = r.unused.two_old };
-        no_current = r.no_current; no_mixed = r.no_mixed;
+        no_current = r.no_current;
+        no_mixed = r.no_mixed;
       })
     where
       whole : g ≡ record f { lock = g.lock; lock_new = g.lock_new }
