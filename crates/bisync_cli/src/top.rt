@@ -1,20 +1,22 @@
 //! The top call.
 
-ghost use Rattle.std.specs.Prelude.{◌≡◌, ◌++◌, [], IsTrue, None, Some, true, false};
+ghost use Rattle.std.specs.Prelude.{◌≡◌, ◌++◌, ℕ, List, [], IsTrue, None, Some, true, false};
 ghost use Rattle.bisync_tree.specs.declared.options.Prefer.{Prefer};
 ghost use Rattle.bisync_model.specs.Trees.{by_side};
 ghost use Rattle.bisync_device.specs.Faults.{Rose};
 ghost use Rattle.bisync_device.specs.Remote.{KeepsTree};
-ghost use Rattle.bisync_device.specs.WorkFolder.{WorkFolder, IsSettled, IsImage};
+ghost use Rattle.bisync_device.specs.WorkFolder.{Absent, WorkFolder, IsSettled, IsImage};
 ghost use Rattle.bisync_work.specs.Locks.{ChangesLock};
 ghost use Rattle.bisync_report.specs.LastLine.{last_text};
-ghost use Rattle.bisync_report.specs.Status.{falls_of, status_of};
-ghost use Rattle.bisync_run.specs.Closing.{HasNoListings};
+ghost use Rattle.bisync_report.specs.Status.{status_of};
+ghost use Rattle.bisync_run.specs.Closing.{HasNoListings, but_fallen_or_lock};
 ghost use Rattle.bisync_run.specs.Counts.{counts, Later, Ends};
-ghost use Rattle.bisync_run.specs.EndKinds.{is_good, is_after_good, may_have_changed};
-ghost use Rattle.bisync_run.specs.Entering.{IsHeldBack};
-ghost use Rattle.bisync_run.specs.Grounds.{HasGrounds};
-ghost use Rattle.bisync_run.specs.ResyncRuns.{AnswersRun, HasNoRefusal, IsResyncedBy, HasNumbers, LeavesBaseOf, LeavesTreesOf, TellsRun, LeavesLock, but_run};
+ghost use Rattle.bisync_run.specs.EndKinds.{is_good, is_after_good, has_freed, is_unlocked, lets_fall, may_have_changed, may_tell_plan};
+ghost use Rattle.bisync_run.specs.Entering.{IsEntryEndWhere, IsHeldBack};
+ghost use Rattle.bisync_run.specs.Grounds.{HasGrounds, IsTold};
+ghost use Rattle.bisync_run.specs.LockNew.{KeepsLockNew};
+ghost use Rattle.bisync_run.specs.ResyncEnds.{IsResyncEnd};
+ghost use Rattle.bisync_run.specs.ResyncRuns.{AnswersRun, AreSetAsideBy, HasNoRefusal, IsResyncedBy, HasNumbers, LeavesBaseOf, LeavesTreesOf, TellsRun, LeavesLock, but_run};
 ghost use Rattle.bisync_cli.specs.Tasks.{OfRun, task_in, asks_run, is_resilient};
 ghost use Rattle.bisync_cli.specs.Ends.{EndsBy};
 
@@ -51,12 +53,15 @@ pub fn bisync_main<A: Folders, B: Folders, K: Remote, L: Remote, W: Work, C: Clo
     ensures clock { asks_run words.now ≡ false → clock.new ≡ clock.old }
     ensures told { asks_run words.now ≡ false → IsTrue S.tells → (Rose (S.state sink.old).faults (S.state sink.new).faults → ⊥) →
         (S.state sink.new).bytes ≡ (S.state sink.old).bytes ++ last_text result.end }
-    ensures answers { OfRun (task_in words.now) (λ opts. IsTrue A.tells → IsTrue B.tells → IsTrue W.tells → IsTrue C.tells → (mode : Prefer) → opts.resync ≡ Some mode →
-        AnswersRun mode opts Limits.REAL (W.state work.old).folder (by_side (A.state one.old) (B.state two.old)) (C.moment clock.old) result.end) }
-    ensures accepted { OfRun (task_in words.now) (λ opts. IsTrue A.tells → IsTrue B.tells → IsTrue W.tells → IsTrue C.tells → (mode : Prefer) → opts.resync ≡ Some mode → is_after_good result.end ≡ true →
-        HasNoRefusal mode opts Limits.REAL (W.state work.old).folder (by_side (A.state one.old) (B.state two.old)) (C.moment clock.old)) }
+    ensures answers { OfRun (task_in words.now) (λ opts. IsTrue A.tells → IsTrue B.tells → IsTrue W.tells → (mode : Prefer) → opts.resync ≡ Some mode →
+        AnswersRun mode opts Limits.REAL (W.state work.old).folder (by_side (A.state one.old) (B.state two.old)) C.tells (C.moment clock.old) result.end) }
+    ensures accepted { OfRun (task_in words.now) (λ opts. IsTrue A.tells → IsTrue B.tells → IsTrue W.tells → (mode : Prefer) → opts.resync ≡ Some mode → is_after_good result.end ≡ true →
+        HasNoRefusal mode opts Limits.REAL (W.state work.old).folder (by_side (A.state one.old) (B.state two.old)) C.tells (C.moment clock.old)) }
     ensures resynced { OfRun (task_in words.now) (λ opts. IsTrue A.tells → IsTrue B.tells → IsTrue W.tells → (mode : Prefer) → opts.resync ≡ Some mode → opts.dry_run ≡ false → is_after_good result.end ≡ true →
         IsResyncedBy mode opts Limits.REAL (W.state work.old).folder (by_side (A.state one.old) (B.state two.old)) (W.state work.new).folder (by_side (A.state one.new) (B.state two.new))) }
+    ensures set_aside { OfRun (task_in words.now) (λ opts. IsTrue W.tells → (mode : Prefer) → opts.resync ≡ Some mode → opts.dry_run ≡ false → is_after_good result.end ≡ true →
+        AreSetAsideBy opts (W.state work.old).folder (W.state work.new).folder) }
+    ensures only { OfRun (task_in words.now) (λ opts. (mode : Prefer) → opts.resync ≡ Some mode → IsResyncEnd opts result.end) }
     ensures numbers { OfRun (task_in words.now) (λ opts. IsTrue A.tells → IsTrue B.tells → IsTrue W.tells → (mode : Prefer) → opts.resync ≡ Some mode →
         is_good result.end ≡ true → HasNumbers mode opts (W.state work.old).folder (by_side (A.state one.old) (B.state two.old)) result.end) }
     ensures base { OfRun (task_in words.now) (λ opts. IsTrue A.tells → IsTrue B.tells → IsTrue W.tells → (mode : Prefer) → opts.resync ≡ Some mode →
@@ -69,16 +74,24 @@ pub fn bisync_main<A: Folders, B: Folders, K: Remote, L: Remote, W: Work, C: Clo
     ensures rest { IsTrue W.tells → but_run (W.state work.new).folder ≡ but_run (W.state work.old).folder }
     ensures untouched_one { may_have_changed result.end ≡ false → KeepsTree A.tells (A.state one.old) (A.state one.new) }
     ensures untouched_two { may_have_changed result.end ≡ false → KeepsTree B.tells (B.state two.old) (B.state two.new) }
-    ensures kept { IsTrue W.tells → may_have_changed result.end ≡ false → falls_of result.end ≡ false → ChangesLock (W.state work.old).folder (W.state work.new).folder }
-    ensures fallen { OfRun (task_in words.now) (λ opts. IsTrue W.tells → opts.resilient ≡ false → opts.dry_run ≡ false → falls_of result.end ≡ true → (Rose (W.state work.old).faults (W.state work.new).faults → ⊥) →
+    ensures kept { OfRun (task_in words.now) (λ opts. IsTrue W.tells → may_have_changed result.end ≡ false → lets_fall opts.resilient opts.dry_run result.end ≡ false →
+        ChangesLock (W.state work.old).folder (W.state work.new).folder) }
+    ensures only_fallen { IsTrue W.tells → may_have_changed result.end ≡ false → but_fallen_or_lock (W.state work.new).folder ≡ but_fallen_or_lock (W.state work.old).folder }
+    ensures fallen { OfRun (task_in words.now) (λ opts. IsTrue W.tells → lets_fall opts.resilient opts.dry_run result.end ≡ true → (Rose (W.state work.old).faults (W.state work.new).faults → ⊥) →
         HasNoListings (W.state work.new).folder) }
     ensures dry_one { OfRun (task_in words.now) (λ opts. opts.dry_run ≡ true → KeepsTree A.tells (A.state one.old) (A.state one.new)) }
     ensures dry_two { OfRun (task_in words.now) (λ opts. opts.dry_run ≡ true → KeepsTree B.tells (B.state two.old) (B.state two.new)) }
     ensures dry { OfRun (task_in words.now) (λ opts. IsTrue W.tells → opts.dry_run ≡ true → ChangesLock (W.state work.old).folder (W.state work.new).folder) }
     ensures lock { OfRun (task_in words.now) (λ opts. IsTrue W.tells → (mode : Prefer) → opts.resync ≡ Some mode →
         (Rose (W.state work.old).faults (W.state work.new).faults → ⊥) → LeavesLock result.end (W.state work.old).folder (W.state work.new).folder) }
+    ensures freed { IsTrue W.tells → has_freed result.end ≡ true → (W.state work.new).folder.lock ≡ Absent }
+    ensures lock_new { IsTrue W.tells → (Rose (W.state work.old).faults (W.state work.new).faults → ⊥) → KeepsLockNew (W.state work.old).folder (W.state work.new).folder }
+    ensures no_digest { OfRun (task_in words.now) (λ opts. IsTrue W.tells → opts.filters ≡ None → (W.state work.new).folder.filters_md5 ≡ (W.state work.old).folder.filters_md5) }
+    ensures entry { OfRun (task_in words.now) (λ opts. IsTrue W.tells → is_unlocked result.end ≡ true →
+        IsEntryEndWhere opts.filters (W.state work.old).folder C.tells (C.moment clock.old) result.end) }
     ensures held_back { IsTrue C.tells → IsHeldBack (C.moment clock.old) result.end }
     ensures grounds { HasGrounds Limits.REAL (by_side A.tells B.tells) result.end }
+    ensures told_truly { IsTold (by_side A.tells B.tells) (by_side (A.state one.old) (B.state two.old)) result.end }
     ensures windows { ((A.state one.new).window ≡ (A.state one.old).window) × ((B.state two.new).window ≡ (B.state two.old).window) }
     ensures left1 { (A.state one.old).left ≡ None → (A.state one.new).left ≡ None }
     ensures left2 { (B.state two.old).left ≡ None → (B.state two.new).left ≡ None }
@@ -86,6 +99,10 @@ pub fn bisync_main<A: Folders, B: Folders, K: Remote, L: Remote, W: Work, C: Clo
     ensures later { Later (counts (A.state one.old).faults (B.state two.old).faults (W.state work.old).faults (S.state sink.old).faults) (counts (A.state one.new).faults (B.state two.new).faults (W.state work.new).faults (S.state sink.new).faults) }
     ensures causes { OfRun (task_in words.now) (λ opts.
         Ends (counts (A.state one.old).faults (B.state two.old).faults (W.state work.old).faults (S.state sink.old).faults) (counts (A.state one.new).faults (B.state two.new).faults (W.state work.new).faults (S.state sink.new).faults) result.end) }
+    ensures quiet { IsTrue S.tells → (Rose (S.state sink.old).faults (S.state sink.new).faults → ⊥) → may_tell_plan result.end ≡ false →
+        (S.state sink.new).bytes ≡ (S.state sink.old).bytes ++ last_text result.end }
+    ensures lines { IsTrue S.tells → (Rose (S.state sink.old).faults (S.state sink.new).faults → ⊥) →
+        (lines : List ℕ) × ((S.state sink.new).bytes ≡ ((S.state sink.old).bytes ++ lines) ++ last_text result.end) }
     ensures report { OfRun (task_in words.now) (λ opts. IsTrue A.tells → IsTrue B.tells → IsTrue S.tells → IsTrue W.tells → (mode : Prefer) → opts.resync ≡ Some mode →
         (Rose (S.state sink.old).faults (S.state sink.new).faults → ⊥) → TellsRun mode opts (W.state work.old).folder (by_side (A.state one.old) (B.state two.old)) (by_side (A.state one.new) (B.state two.new)) (S.state sink.old).bytes (last_text result.end) (S.state sink.new).bytes result.end) }
 {

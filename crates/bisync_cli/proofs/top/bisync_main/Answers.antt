@@ -20,6 +20,12 @@ returns-clause-accepted g c = of_run _ _ _ _ c.in-Ok-Run.ensures.read.ok c.in-Ok
 pub returns-clause-resynced : goal.returns-clause-resynced
 returns-clause-resynced g c = of_run _ _ _ _ c.in-Ok-Run.ensures.read.ok c.in-Ok-Run.field-0-is c.run-end.ensures.resynced
 
+pub returns-clause-set_aside : goal.returns-clause-set_aside
+returns-clause-set_aside g c = of_run _ _ _ _ c.in-Ok-Run.ensures.read.ok c.in-Ok-Run.field-0-is c.run-end.ensures.set_aside
+
+pub returns-clause-only : goal.returns-clause-only
+returns-clause-only g c = of_run _ _ _ _ c.in-Ok-Run.ensures.read.ok c.in-Ok-Run.field-0-is c.run-end.ensures.only
+
 pub returns-clause-numbers : goal.returns-clause-numbers
 returns-clause-numbers g c = of_run _ _ _ _ c.in-Ok-Run.ensures.read.ok c.in-Ok-Run.field-0-is c.run-end.ensures.numbers
 
@@ -31,6 +37,9 @@ returns-clause-images g c = of_run _ _ _ _ c.in-Ok-Run.ensures.read.ok c.in-Ok-R
 
 pub returns-clause-trees : goal.returns-clause-trees
 returns-clause-trees g c = of_run _ _ _ _ c.in-Ok-Run.ensures.read.ok c.in-Ok-Run.field-0-is c.run-end.ensures.trees
+
+pub returns-clause-kept : goal.returns-clause-kept
+returns-clause-kept g c = of_run _ _ _ _ c.in-Ok-Run.ensures.read.ok c.in-Ok-Run.field-0-is c.run-end.ensures.kept
 
 pub returns-clause-fallen : goal.returns-clause-fallen
 returns-clause-fallen g c = of_run _ _ _ _ c.in-Ok-Run.ensures.read.ok c.in-Ok-Run.field-0-is c.run-end.ensures.fallen
@@ -46,6 +55,12 @@ returns-clause-dry g c = of_run _ _ _ _ c.in-Ok-Run.ensures.read.ok c.in-Ok-Run.
 
 pub returns-clause-lock : goal.returns-clause-lock
 returns-clause-lock g c = of_run _ _ _ _ c.in-Ok-Run.ensures.read.ok c.in-Ok-Run.field-0-is c.run-end.ensures.lock
+
+pub returns-clause-no_digest : goal.returns-clause-no_digest
+returns-clause-no_digest g c = of_run _ _ _ _ c.in-Ok-Run.ensures.read.ok c.in-Ok-Run.field-0-is c.run-end.ensures.no_digest
+
+pub returns-clause-entry : goal.returns-clause-entry
+returns-clause-entry g c = of_run _ _ _ _ c.in-Ok-Run.ensures.read.ok c.in-Ok-Run.field-0-is c.run-end.ensures.entry
 
 pub returns-clause-causes : goal.returns-clause-causes
 returns-clause-causes g c = of_run _ _ _ _ c.in-Ok-Run.ensures.read.ok c.in-Ok-Run.field-0-is c.run-end.ensures.causes
