@@ -1,7 +1,6 @@
 -- What is known of the run that words ask for.
-use Rattle.std.proofs.Common.{◌≡◌, ◌∙◌, refl, ap, sym, subst, inl, true, Option, Some, None, Result, Ok, Err}
-use Rattle.std.specs.Prelude.{◌≢◌, is_some}
-use Rattle.std.proofs.lemmas.Bool.{and_parts}
+use Rattle.std.proofs.Common.{◌≡◌, ◌∙◌, ◌<◌, ◌^◌, pos, refl, ap, sym, subst, inl, true, false, Some, None, Result, Ok, Err}
+use Rattle.std.specs.Prelude.{◌≢◌, ◌||◌}
 use Rattle.bisync_tree.specs.declared.options.Limits.{Limits}
 use Rattle.bisync_tree.specs.declared.options.Prefer.{Prefer}
 use Rattle.bisync_device.specs.WorkFolder.{WorkFolder, IsSettled, IsImage}
@@ -10,14 +9,16 @@ use Rattle.bisync_opts.specs.declared.options.Opts.{Opts}
 use Rattle.bisync_report.specs.declared.ends.End.{End}
 use Rattle.bisync_report.specs.declared.ends.End.TheVariants.{Done, Resynced, DryRun, InSync, Demo, Usage, WorkFault, NoFilters, BadRule, Locked, FiltersChanged, BadListing, NeedResync, ListingsDiffer, EmptyPrior, RemoteFault, BadPath, TooMany, CheckAccess, EmptyCurrent, TooManyDeletes, AllChanged, NameTooLong, ListingTooLong, OutOfSync, Moved, SinkFault, LockLeft, FoldersLeft, KeepFault, Checked, NotBuilt, OutOfMemory}
 use Rattle.bisync_run.specs.Counts.{Counts, Ends}
+use Rattle.bisync_run.specs.OrdinaryRuns.{KeepsOrdinaryBaseOf, KeepsSafe, LeavesOrdinaryBaseOf}
 use Rattle.bisync_run.specs.ResyncRuns.{LeavesBaseOf}
 use Rattle.bisync_run.specs.Untouched.{Remotes}
 use Rattle.bisync_run.proofs.DoneSteps.{untouched_same}
-use Rattle.bisync_run.proofs.ToldEnds.{images}
+use Rattle.bisync_run.proofs.SafeRuns.{keeps_safe}
+use Rattle.bisync_run.proofs.ToldEnds.{images, image_keeps}
 use Rattle.bisync_cli.specs.declared.tasks.Task.{Task}
 use Rattle.bisync_cli.specs.declared.tasks.Task.TheVariants.{Run, NotBuilt as NoTask}
 use Rattle.bisync_cli.specs.Ends.{IsRunEnd, EndsBy}
-use Rattle.bisync_cli.specs.Tasks.{OfRun, IsTaskInRange}
+use Rattle.bisync_cli.specs.Tasks.{OfRun}
 
 -- what holds by the options that were read is said of the run
 pub of_run : (read : Result Task UsageKind) (Says : Opts → Type 0) (task : Task) (opts : Opts) → read ≡ Ok task → task ≡ Run opts → Says opts → OfRun read Says
@@ -31,6 +32,29 @@ images_same (Ok (Run opts)) One Two Works limits f start =
     λ one two work mode is settled image image_is. images mode opts limits f start f image start (λ base was. inl (was, untouched_same start)) settled image_is
 images_same (Ok NoTask) One Two Works limits f start = tt
 images_same (Err kind) One Two Works limits f start = tt
+
+-- the same of an ordinary run
+pub run_images_same : (read : Result Task UsageKind) (One Two Works : Type 0) (limits : Limits) (f : WorkFolder) (start : Remotes)
+    → OfRun read (λ opts. opts.resync ≡ None → One → Two → Works → IsSettled f → (image : WorkFolder) → IsImage f image
+    → LeavesOrdinaryBaseOf opts limits f start image start)
+run_images_same (Ok (Run opts)) One Two Works limits f start = λ none one two work settled image image_is base was. inl ((image_keeps limits.listing f image settled image_is).base base was)
+run_images_same (Ok NoTask) One Two Works limits f start = tt
+run_images_same (Err kind) One Two Works limits f start = tt
+
+pub kept_images_same : (read : Result Task UsageKind) (One Two Works : Type 0) (limits : Limits) (f : WorkFolder) (start : Remotes)
+    → OfRun read (λ opts. opts.resync ≡ None → One → Two → Works → (opts.resilient || opts.dry_run) ≡ true → IsSettled f → (image : WorkFolder) → IsImage f image
+    → KeepsOrdinaryBaseOf opts limits f start image start)
+kept_images_same (Ok (Run opts)) One Two Works limits f start = λ none one two work stays settled image image_is base was. inl ((image_keeps limits.listing f image settled image_is).base base was)
+kept_images_same (Ok NoTask) One Two Works limits f start = tt
+kept_images_same (Err kind) One Two Works limits f start = tt
+
+-- what is safe in an untouched folder is safe in its images
+pub safe_same : (read : Result Task UsageKind) (One Two Works : Type 0) (limits : Limits) → limits.listing < 2 ^ 64 → (f : WorkFolder) (start : Remotes)
+    → OfRun read (λ opts. opts.resync ≡ None → One → Two → Works → IsSettled f → (image : WorkFolder) → IsImage f image → KeepsSafe opts limits f start image start)
+safe_same (Ok (Run opts)) One Two Works limits small f start = λ none one two work settled image image_is.
+    keeps_safe opts limits small f start false (pos 0) image start (λ base was. inl ((image_keeps limits.listing f image settled image_is).base base was)) (inl (untouched_same start))
+safe_same (Ok NoTask) One Two Works limits small f start = tt
+safe_same (Err kind) One Two Works limits small f start = tt
 
 -- a run that has its cause, and isn't one that isn't built, refuses no words
 is_run_end : (old new : Counts) (end : End) → Ends old new end → end ≢ NotBuilt → IsRunEnd end
@@ -68,13 +92,8 @@ is_run_end old new (Checked differ) ends built = tt
 is_run_end old new NotBuilt ends built = built refl
 is_run_end old new OutOfMemory ends built = tt
 
-built_end : (old new : Counts) (end : End) (resync : Option Prefer) → is_some resync ≡ true → ((mode : Prefer) → resync ≡ Some mode → end ≢ NotBuilt) → Ends old new end → IsRunEnd end
-built_end old new end None some built ends = absurd cc
-built_end old new end (Some mode) some built ends = is_run_end old new end ends (built mode refl)
-
 -- the end of a run
-pub ends_run : (read : Result Task UsageKind) (task : Task) (opts : Opts) (old new : Counts) (end : End) → read ≡ Ok task → task ≡ Run opts → IsTaskInRange task
-    → ((mode : Prefer) → opts.resync ≡ Some mode → end ≢ NotBuilt) → Ends old new end → EndsBy read end
-ends_run read task opts old new end is asks range built ends =
-    let makes = (subst IsTaskInRange asks range).1 in
-    subst (λ (r : Result Task UsageKind). EndsBy r end) (sym (is ∙ ap Ok asks)) (built_end old new end opts.resync (and_parts _ _ makes).0 built ends)
+pub ends_run : (read : Result Task UsageKind) (task : Task) (opts : Opts) (old new : Counts) (end : End) → read ≡ Ok task → task ≡ Run opts
+    → end ≢ NotBuilt → Ends old new end → EndsBy read end
+ends_run read task opts old new end is asks built ends =
+    subst (λ (r : Result Task UsageKind). EndsBy r end) (sym (is ∙ ap Ok asks)) (is_run_end old new end ends built)

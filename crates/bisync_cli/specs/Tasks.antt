@@ -1,11 +1,13 @@
 -- What the words ask for.
-use Rattle.std.specs.Prelude.{◌≡◌, ℕ, ⊤, Bool, true, false, not, ◌&&◌, List, [], ◌∷◌, Option, Some, None, Result, Ok, Err, codes, is_some, if◌then◌else◌}
+use Rattle.std.specs.Prelude.{ℕ, ⊤, Bool, true, false, not, ◌&&◌, ◌||◌, List, [], ◌∷◌, Option, Some, None, Result, Ok, Err, codes, is_some, if◌then◌else◌}
 use Rattle.bisync_opts.specs.Choices.{chosen}
 use Rattle.bisync_opts.specs.Options.{options_of}
 use Rattle.bisync_opts.specs.Ranges.{IsInRange}
 use Rattle.bisync_opts.specs.Reading.{◌>>=◌}
 use Rattle.bisync_opts.specs.declared.faults.UsageKind.{UsageKind}
 use Rattle.bisync_opts.specs.declared.faults.UsageKind.TheVariants as usage
+use Rattle.bisync_opts.specs.declared.options.CheckSync.{CheckSync}
+use Rattle.bisync_opts.specs.declared.options.CheckSync.TheVariants.{Always, Never, Only}
 use Rattle.bisync_opts.specs.declared.options.Opts.{Opts}
 use Rattle.bisync_cli.specs.declared.tasks.Command.{Command}
 use Rattle.bisync_cli.specs.declared.tasks.Command.TheVariants.{Bisync, Demo, Check}
@@ -16,9 +18,23 @@ use Rattle.bisync_cli.specs.declared.tasks.Task.TheVariants.{Run, NotBuilt}
 abbrev pub command_of : List ℕ → Option Command
 command_of = chosen ((codes "bisync", Bisync) ∷ (codes "demo", Demo) ∷ (codes "check", Check) ∷ [])
 
--- this version makes a resync without options on folders, and no other run
+-- a run only compares its base, or is a dry run
+abbrev pub only_looks_by : CheckSync → Bool → Bool
+only_looks_by Only dry_run = true
+only_looks_by Always dry_run = dry_run
+only_looks_by Never dry_run = dry_run
+
+abbrev pub only_looks : Opts → Bool
+only_looks opts = only_looks_by opts.check_sync opts.dry_run
+
+-- it keeps backups or tracks renames
+abbrev pub keeps_or_tracks : Opts → Bool
+keeps_or_tracks opts = is_some opts.backup1 || is_some opts.backup2 || opts.track_renames
+
+-- this version makes runs without options on folders, backups and renames; one that only looks makes nothing of them, and a
+-- resync nothing of those on backups and renames
 abbrev pub is_built : Opts → Bool
-is_built opts = is_some opts.resync && not (is_some opts.folders)
+is_built opts = only_looks opts || (not (is_some opts.folders) && (is_some opts.resync || not (keeps_or_tracks opts)))
 
 -- the run of these options, where this version makes it
 abbrev pub task_of : Opts → Task
@@ -40,9 +56,9 @@ abbrev pub task_in : List (List ℕ) → Result Task UsageKind
 task_in [] = Err usage.Command
 task_in (first ∷ rest) = task_behind (command_of first) rest
 
--- the options of a run are in their ranges, and this version makes that run
+-- the options of a run are in their ranges
 abbrev pub IsTaskInRange : Task → Type 0
-IsTaskInRange (Run opts) = IsInRange opts × (is_built opts ≡ true)
+IsTaskInRange (Run opts) = IsInRange opts
 IsTaskInRange NotBuilt = ⊤
 
 -- what is said of the run that words ask for, with its options

@@ -1,11 +1,11 @@
 //! What the words ask for.
 
 ghost use Rattle.std.specs.Prelude.{◌≡◌, IfOk};
-ghost use Rattle.bisync_cli.specs.Tasks.{IsTaskInRange, command_of, is_built, run_in, task_in, task_of};
+ghost use Rattle.bisync_cli.specs.Tasks.{IsTaskInRange, command_of, is_built, keeps_or_tracks as keeps_or_tracks_of, only_looks as only_looks_of, run_in, task_in, task_of};
 ghost use Rattle.bisync_opts.specs.Ranges.{IsInRange};
 ghost use Rattle.bisync_opts.specs.Reading.{IsReadAs};
 
-use bisync_opts::{OptFault, Opts, UsageKind, read_options};
+use bisync_opts::{CheckSync, OptFault, Opts, UsageKind, read_options};
 use bisync_text::Text;
 use std::alloc::Global;
 
@@ -85,9 +85,28 @@ fn task_for(opts: Opts) -> Task
     }
 }
 
-/// Whether this version makes such a run.
+/// Whether this version makes such a run. One that only looks makes nothing of options on folders,
+/// backups and renames; and a resync nothing of those on backups and renames.
 fn is_built(opts: &Opts) -> bool
     ensures { result ≡ is_built opts.now }
 {
-    opts.resync.is_some() && opts.folders.is_none()
+    only_looks(opts)
+        || (opts.folders.is_none() && (opts.resync.is_some() || !keeps_or_tracks(opts)))
+}
+
+/// Whether a run only tells what it would do, or only compares its base.
+fn only_looks(opts: &Opts) -> bool
+    ensures { result ≡ only_looks_of opts.now }
+{
+    match opts.check_sync {
+        CheckSync::Only => true,
+        CheckSync::Always | CheckSync::Never => opts.dry_run,
+    }
+}
+
+/// Whether a run keeps backups or tracks renames.
+fn keeps_or_tracks(opts: &Opts) -> bool
+    ensures { result ≡ keeps_or_tracks_of opts.now }
+{
+    opts.backup1.is_some() || opts.backup2.is_some() || opts.track_renames
 }

@@ -1,12 +1,13 @@
 //! The top call.
 
-ghost use Rattle.std.specs.Prelude.{◌≡◌, ◌++◌, ℕ, List, [], IsTrue, None, Some, true, false};
+ghost use Rattle.std.specs.Prelude.{◌≡◌, ◌≢◌, ◌++◌, ◌||◌, ℕ, List, [], IsTrue, None, Some, true, false};
 ghost use Rattle.bisync_tree.specs.declared.options.Prefer.{Prefer};
 ghost use Rattle.bisync_model.specs.Trees.{by_side};
 ghost use Rattle.bisync_device.specs.Faults.{Rose};
 ghost use Rattle.bisync_device.specs.Remote.{KeepsTree};
 ghost use Rattle.bisync_device.specs.WorkFolder.{Absent, WorkFolder, IsSettled, IsImage};
-ghost use Rattle.bisync_work.specs.Locks.{ChangesLock};
+ghost use Rattle.bisync_work.specs.Locks.{ChangesLock, KeepsBlocking};
+ghost use Rattle.bisync_work.specs.Moves.{IsFallen};
 ghost use Rattle.bisync_report.specs.LastLine.{last_text};
 ghost use Rattle.bisync_report.specs.Status.{status_of};
 ghost use Rattle.bisync_run.specs.Closing.{HasNoListings, but_fallen_or_lock};
@@ -15,15 +16,19 @@ ghost use Rattle.bisync_run.specs.EndKinds.{is_good, is_after_good, has_freed, i
 ghost use Rattle.bisync_run.specs.Entering.{IsEntryEndWhere, IsHeldBack};
 ghost use Rattle.bisync_run.specs.Grounds.{HasGrounds, IsTold};
 ghost use Rattle.bisync_run.specs.LockNew.{KeepsLockNew};
+ghost use Rattle.bisync_run.specs.Ordinary.{but_ordinary_or_fallen};
+ghost use Rattle.bisync_run.specs.OrdinaryEnds.{IsOrdinaryEnd};
+ghost use Rattle.bisync_run.specs.OrdinaryRuns.{AnswersOrdinaryRun, HasOrdinaryNumbers, IsDoneBy, IsUnrefused, KeepsOrdinaryBaseOf, KeepsSafe, LeavesOrdinaryBaseOf, LeavesOrdinaryTreesOf, TellsOrdinaryRun};
 ghost use Rattle.bisync_run.specs.ResyncEnds.{IsResyncEnd};
 ghost use Rattle.bisync_run.specs.ResyncRuns.{AnswersRun, AreSetAsideBy, HasNoRefusal, IsResyncedBy, HasNumbers, LeavesBaseOf, LeavesTreesOf, TellsRun, LeavesLock, but_run};
+ghost use Rattle.bisync_run.specs.Sides.{compare_in};
 ghost use Rattle.bisync_cli.specs.Tasks.{OfRun, task_in, asks_run, is_resilient};
 ghost use Rattle.bisync_cli.specs.Ends.{EndsBy};
 
 use crate::answers::{Answer, told};
 use crate::tasks::{Task, read_task};
 use bisync_device::{Clock, Folders, Remote, Sink, Work};
-use bisync_opts::{OptFault, Opts};
+use bisync_opts::{CheckSync, OptFault, Opts};
 use bisync_report::{End, status};
 use bisync_run::run;
 use bisync_text::Text;
@@ -70,6 +75,32 @@ pub fn bisync_main<A: Folders, B: Folders, K: Remote, L: Remote, W: Work, C: Clo
         IsSettled (W.state work.old).folder → (image : WorkFolder) → IsImage (W.state work.new).folder image → LeavesBaseOf mode opts Limits.REAL (W.state work.old).folder (by_side (A.state one.old) (B.state two.old)) image (by_side (A.state one.new) (B.state two.new))) }
     ensures trees { OfRun (task_in words.now) (λ opts. IsTrue A.tells → IsTrue B.tells → IsTrue W.tells → (mode : Prefer) → opts.resync ≡ Some mode →
         LeavesTreesOf mode opts Limits.REAL (W.state work.old).folder (by_side (A.state one.old) (B.state two.old)) C.tells (C.moment clock.old) (by_side (A.state one.new) (B.state two.new))) }
+    ensures run_answers { OfRun (task_in words.now) (λ opts. opts.resync ≡ None → IsTrue A.tells → IsTrue B.tells → IsTrue W.tells →
+        AnswersOrdinaryRun opts Limits.REAL (W.state work.old).folder (by_side (A.state one.old) (B.state two.old)) C.tells (C.moment clock.old) result.end) }
+    ensures unrefused { OfRun (task_in words.now) (λ opts. opts.resync ≡ None → IsTrue A.tells → IsTrue B.tells → IsTrue W.tells → is_after_good result.end ≡ true →
+        IsUnrefused opts Limits.REAL (W.state work.old).folder (by_side (A.state one.old) (B.state two.old)) C.tells (C.moment clock.old)) }
+    ensures done { OfRun (task_in words.now) (λ opts. opts.resync ≡ None → IsTrue A.tells → IsTrue B.tells → IsTrue W.tells → opts.dry_run ≡ false → opts.check_sync ≢ CheckSync.Only → is_after_good result.end ≡ true →
+        IsDoneBy opts Limits.REAL (W.state work.old).folder (by_side (A.state one.old) (B.state two.old)) (W.state work.new).folder (by_side (A.state one.new) (B.state two.new))) }
+    ensures run_numbers { OfRun (task_in words.now) (λ opts. opts.resync ≡ None → IsTrue A.tells → IsTrue B.tells → IsTrue W.tells → is_good result.end ≡ true → HasOrdinaryNumbers opts Limits.REAL (W.state work.old).folder (by_side (A.state one.old) (B.state two.old)) result.end) }
+    ensures run_base { OfRun (task_in words.now) (λ opts. opts.resync ≡ None → IsTrue A.tells → IsTrue B.tells → IsTrue W.tells →
+        LeavesOrdinaryBaseOf opts Limits.REAL (W.state work.old).folder (by_side (A.state one.old) (B.state two.old)) (W.state work.new).folder (by_side (A.state one.new) (B.state two.new))) }
+    ensures resilient_base { OfRun (task_in words.now) (λ opts. opts.resync ≡ None → IsTrue A.tells → IsTrue B.tells → IsTrue W.tells → (opts.resilient || opts.dry_run) ≡ true →
+        KeepsOrdinaryBaseOf opts Limits.REAL (W.state work.old).folder (by_side (A.state one.old) (B.state two.old)) (W.state work.new).folder (by_side (A.state one.new) (B.state two.new))) }
+    ensures run_trees { OfRun (task_in words.now) (λ opts. opts.resync ≡ None → IsTrue A.tells → IsTrue B.tells → IsTrue W.tells →
+        LeavesOrdinaryTreesOf opts Limits.REAL (W.state work.old).folder (by_side (A.state one.old) (B.state two.old)) C.tells (C.moment clock.old) (by_side (A.state one.new) (B.state two.new))) }
+    ensures run_rest { OfRun (task_in words.now) (λ opts. opts.resync ≡ None → IsTrue W.tells → but_ordinary_or_fallen (W.state work.new).folder ≡ but_ordinary_or_fallen (W.state work.old).folder) }
+    ensures only_run { OfRun (task_in words.now) (λ opts. opts.resync ≡ None → IsOrdinaryEnd opts (compare_in opts.compare (A.state one.old).window (B.state two.old).window) result.end) }
+    ensures run_images { OfRun (task_in words.now) (λ opts. opts.resync ≡ None → IsTrue A.tells → IsTrue B.tells → IsTrue W.tells →
+        IsSettled (W.state work.old).folder → (image : WorkFolder) → IsImage (W.state work.new).folder image → LeavesOrdinaryBaseOf opts Limits.REAL (W.state work.old).folder (by_side (A.state one.old) (B.state two.old)) image (by_side (A.state one.new) (B.state two.new))) }
+    ensures resilient_images { OfRun (task_in words.now) (λ opts. opts.resync ≡ None → IsTrue A.tells → IsTrue B.tells → IsTrue W.tells → (opts.resilient || opts.dry_run) ≡ true →
+        IsSettled (W.state work.old).folder → (image : WorkFolder) → IsImage (W.state work.new).folder image → KeepsOrdinaryBaseOf opts Limits.REAL (W.state work.old).folder (by_side (A.state one.old) (B.state two.old)) image (by_side (A.state one.new) (B.state two.new))) }
+    ensures safe { OfRun (task_in words.now) (λ opts. opts.resync ≡ None → IsTrue A.tells → IsTrue B.tells → IsTrue W.tells →
+        IsSettled (W.state work.old).folder → (image : WorkFolder) → IsImage (W.state work.new).folder image → KeepsSafe opts Limits.REAL (W.state work.old).folder (by_side (A.state one.old) (B.state two.old)) image (by_side (A.state one.new) (B.state two.new))) }
+    ensures only_one { OfRun (task_in words.now) (λ opts. opts.resync ≡ None → opts.check_sync ≡ CheckSync.Only → KeepsTree A.tells (A.state one.old) (A.state one.new)) }
+    ensures only_two { OfRun (task_in words.now) (λ opts. opts.resync ≡ None → opts.check_sync ≡ CheckSync.Only → KeepsTree B.tells (B.state two.old) (B.state two.new)) }
+    ensures only_base { OfRun (task_in words.now) (λ opts. opts.resync ≡ None → opts.check_sync ≡ CheckSync.Only → IsTrue W.tells → is_after_good result.end ≡ true →
+        ChangesLock (W.state work.old).folder (W.state work.new).folder) }
+    ensures blocked { IsTrue W.tells → IsTrue C.tells → KeepsBlocking (C.moment clock.old) (W.state work.old).folder (W.state work.new).folder }
     ensures settled { IsTrue W.tells → IsSettled (W.state work.old).folder → IsSettled (W.state work.new).folder }
     ensures rest { IsTrue W.tells → but_run (W.state work.new).folder ≡ but_run (W.state work.old).folder }
     ensures untouched_one { may_have_changed result.end ≡ false → KeepsTree A.tells (A.state one.old) (A.state one.new) }
@@ -79,10 +110,12 @@ pub fn bisync_main<A: Folders, B: Folders, K: Remote, L: Remote, W: Work, C: Clo
     ensures only_fallen { IsTrue W.tells → may_have_changed result.end ≡ false → but_fallen_or_lock (W.state work.new).folder ≡ but_fallen_or_lock (W.state work.old).folder }
     ensures fallen { OfRun (task_in words.now) (λ opts. IsTrue W.tells → lets_fall opts.resilient opts.dry_run result.end ≡ true → (Rose (W.state work.old).faults (W.state work.new).faults → ⊥) →
         HasNoListings (W.state work.new).folder) }
+    ensures fell { OfRun (task_in words.now) (λ opts. IsTrue W.tells → may_have_changed result.end ≡ false → lets_fall opts.resilient opts.dry_run result.end ≡ true → (Rose (W.state work.old).faults (W.state work.new).faults → ⊥) →
+        IsFallen (W.state work.old).folder (W.state work.new).folder) }
     ensures dry_one { OfRun (task_in words.now) (λ opts. opts.dry_run ≡ true → KeepsTree A.tells (A.state one.old) (A.state one.new)) }
     ensures dry_two { OfRun (task_in words.now) (λ opts. opts.dry_run ≡ true → KeepsTree B.tells (B.state two.old) (B.state two.new)) }
     ensures dry { OfRun (task_in words.now) (λ opts. IsTrue W.tells → opts.dry_run ≡ true → ChangesLock (W.state work.old).folder (W.state work.new).folder) }
-    ensures lock { OfRun (task_in words.now) (λ opts. IsTrue W.tells → (mode : Prefer) → opts.resync ≡ Some mode →
+    ensures lock { OfRun (task_in words.now) (λ opts. IsTrue W.tells →
         (Rose (W.state work.old).faults (W.state work.new).faults → ⊥) → LeavesLock result.end (W.state work.old).folder (W.state work.new).folder) }
     ensures freed { IsTrue W.tells → has_freed result.end ≡ true → (W.state work.new).folder.lock ≡ Absent }
     ensures lock_new { IsTrue W.tells → (Rose (W.state work.old).faults (W.state work.new).faults → ⊥) → KeepsLockNew (W.state work.old).folder (W.state work.new).folder }
@@ -105,6 +138,8 @@ pub fn bisync_main<A: Folders, B: Folders, K: Remote, L: Remote, W: Work, C: Clo
         (lines : List ℕ) × ((S.state sink.new).bytes ≡ ((S.state sink.old).bytes ++ lines) ++ last_text result.end) }
     ensures report { OfRun (task_in words.now) (λ opts. IsTrue A.tells → IsTrue B.tells → IsTrue S.tells → IsTrue W.tells → (mode : Prefer) → opts.resync ≡ Some mode →
         (Rose (S.state sink.old).faults (S.state sink.new).faults → ⊥) → TellsRun mode opts (W.state work.old).folder (by_side (A.state one.old) (B.state two.old)) (by_side (A.state one.new) (B.state two.new)) (S.state sink.old).bytes (last_text result.end) (S.state sink.new).bytes result.end) }
+    ensures run_report { OfRun (task_in words.now) (λ opts. opts.resync ≡ None → IsTrue A.tells → IsTrue B.tells → IsTrue W.tells → IsTrue S.tells → (Rose (S.state sink.old).faults (S.state sink.new).faults → ⊥) →
+        TellsOrdinaryRun opts Limits.REAL (W.state work.old).folder (by_side (A.state one.old) (B.state two.old)) (by_side (A.state one.new) (B.state two.new)) (S.state sink.old).bytes (last_text result.end) (S.state sink.new).bytes result.end) }
 {
     let opts = match read_task(alloc, words) {
         Ok(Task::Run(opts)) => opts,

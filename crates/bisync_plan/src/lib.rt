@@ -24,3 +24,4 @@ mod told_plans;
 
 pub use faults::PlanFault;
 pub use plans::Plan;
+pub use tested::compared;

@@ -43,8 +43,18 @@ fn first_apart<'a>(mut walk: Walk<'a>, compare: &Compare) -> Option<Cell<'a>>
     None
 }
 
-/// Whether two listings are the same at every path.
-fn compared(alloc: Global, compare: &Compare, one: &Listing, two: &Listing) -> Result<(), PlanFault>
+/// Whether two listings are the same at every path. Ok where they are.
+///
+/// # Errors
+///
+/// `OutOfSync` with the first path in byte order at which they aren't, and their entries there.
+/// `OutOfMemory` where memory was refused. Never `TooLong` or `ListingTooLong`.
+pub fn compared(
+    alloc: Global,
+    compare: &Compare,
+    one: &Listing,
+    two: &Listing,
+) -> Result<(), PlanFault>
     ensures agree { OnOk result (Agree compare.now (look one.now) (look two.now)) }
     ensures fault { IfErr result (λ fault. IsApart compare.now (by_side (look one.now) (look two.now)) fault) }
 {

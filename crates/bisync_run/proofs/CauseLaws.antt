@@ -1,9 +1,11 @@
 -- The counts of faults of one part of a run after another.
-use Rattle.std.proofs.Common.{◌≡◌, ◌≤◌, ℕ, true, false, refl, sym, subst, arith, Result, Ok, Err}
+use Rattle.std.proofs.Common.{◌≡◌, ◌≤◌, ℕ, Bool, true, false, refl, sym, subst, arith, Result, Ok, Err}
+use Rattle.bisync_device.specs.Faults.{HasCause}
 use Rattle.bisync_report.specs.declared.ends.End.{End}
+use Rattle.bisync_report.specs.declared.ends.End.TheVariants.{WorkFault}
 use Rattle.bisync_plan.specs.declared.faults.PlanFault.{PlanFault}
 use Rattle.bisync_plan.specs.declared.faults.PlanFault.TheVariants as unplanned
-use Rattle.bisync_run.specs.Counts.{Counts, Later, Stops, HasCauses}
+use Rattle.bisync_run.specs.Counts.{Counts, counts, Later, Stops, HasCauses}
 use Rattle.bisync_run.specs.Looking.{unplanned_end}
 
 le_refl : (n : ℕ) → n ≤ n
@@ -22,6 +24,21 @@ fails a b e h = record { later = h.later; good = λ (ok : false ≡ true). cc; f
 
 pub nothing_failed : {T : Type 0} (a : Counts) (x : T) → HasCauses a a (Ok x)
 nothing_failed a x = record { later = same_later a; good = λ ok. refl; fault = tt }
+
+pub stopped : {T : Type 0} (a : Counts) (e : End) → Stops a a e → HasCauses {T = T} a a (Err e)
+stopped a e stops = record { later = same_later a; good = λ (ok : false ≡ true). cc; fault = stops }
+
+-- a call of the work folder failed
+pub work_failed : {T : Type 0} (one two sink a b : ℕ) (failed : Bool) → failed ≡ true → HasCause failed a b → HasCauses {T = T} (counts one two a sink) (counts one two b sink) (Err WorkFault)
+work_failed one two sink a b failed is h = record {
+  later = record { one = le_refl one; two = le_refl two; work = h.later; sink = le_refl sink };
+  good = λ (ok : false ≡ true). cc;
+  fault = h.rose is;
+}
+
+-- its calls didn't fail
+pub work_stays : {T : Type 0} (one two sink a b : ℕ) (r : Result T End) (failed : Bool) → failed ≡ false → HasCause failed a b → HasCauses (counts one two a sink) (counts one two a sink) r → HasCauses (counts one two a sink) (counts one two b sink) r
+work_stays one two sink a b r failed is h rest = subst (λ (n : ℕ). HasCauses (counts one two a sink) (counts one two n sink) r) (sym (h.kept is)) rest
 
 -- that there is no plan is no fault of a device
 unplanned_stops : (a b : Counts) (fault : PlanFault) → Stops a b (unplanned_end fault)

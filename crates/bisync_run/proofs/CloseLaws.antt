@@ -3,7 +3,8 @@ use Rattle.std.proofs.Common.{◌≡◌, ◌⊎◌, ℕ, sym, ◌∙◌, ap, sub
 use Rattle.bisync_device.specs.WorkFolder.{Absent, WorkFolder, IsSettled, with_held}
 use Rattle.bisync_device.specs.declared.works.WorkName.TheVariants.{Lock}
 use Rattle.bisync_work.specs.Base.{Base, IsBase, HasNoBase}
-use Rattle.bisync_work.specs.Moves.{Falls, SameListings, but_fallen}
+use Rattle.bisync_work.specs.Moves.{Falls, IsFallen, SameListings, but_fallen, moved_over}
+use Rattle.bisync_work.specs.Locks.{ChangesLock}
 use Rattle.bisync_work.proofs.BaseLaws.{same_keeps}
 use Rattle.bisync_run.specs.Closing.{Closes, Unlocks}
 
@@ -42,3 +43,27 @@ closes f g h fell may =
       settled = λ s. still_settled g h only (fell.settled s);
       rest = ap but_fallen only.rest ∙ ap (with_held Lock Absent) fell.rest;
     }
+
+-- what fell still has, past the removal of the lock
+pub fell_unlocked : (f g h : WorkFolder) → IsFallen f g → MayUnlock g h → IsFallen f h
+fell_unlocked f g h fell may =
+    let only = unlocks g h may in
+    record {
+      one = ap (λ (x : WorkFolder). x.one) only.rest ∙ fell.one;
+      two = ap (λ (x : WorkFolder). x.two) only.rest ∙ fell.two;
+      one_old = ap (λ (x : WorkFolder). x.one_old) only.rest ∙ fell.one_old;
+      two_old = ap (λ (x : WorkFolder). x.two_old) only.rest ∙ fell.two_old;
+      one_err = ap (λ (x : WorkFolder). x.one_err) only.rest ∙ fell.one_err;
+      two_err = ap (λ (x : WorkFolder). x.two_err) only.rest ∙ fell.two_err;
+    }
+
+-- said of the folder before the lock was taken
+pub fell_before : (f f2 mid h : WorkFolder) → ChangesLock f f2 → mid ≡ f2 → IsFallen mid h → IsFallen f h
+fell_before f f2 mid h changes same fell = record {
+  one = fell.one;
+  two = fell.two;
+  one_old = fell.one_old;
+  two_old = fell.two_old;
+  one_err = fell.one_err ∙ ap (λ (w : WorkFolder). moved_over w.one (moved_over w.one_old w.one_err)) same ∙ ap (λ (w : WorkFolder). moved_over w.one (moved_over w.one_old w.one_err)) changes.rest;
+  two_err = fell.two_err ∙ ap (λ (w : WorkFolder). moved_over w.two (moved_over w.two_old w.two_err)) same ∙ ap (λ (w : WorkFolder). moved_over w.two (moved_over w.two_old w.two_err)) changes.rest;
+}

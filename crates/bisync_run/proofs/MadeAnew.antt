@@ -31,11 +31,11 @@ use Rattle.bisync_run.specs.Stepping.{IsPartDone, FindsAll}
 use Rattle.bisync_run.specs.Untouched.{Remotes}
 use Rattle.bisync_run.specs.declared.prepared.Prepared.{Prepared}
 
-abbrev base_with : Header → Rows → Rows → Base
+abbrev pub base_with : Header → Rows → Rows → Base
 base_with header one two = record { header = header; one = one; two = two }
 
 module _ (mode : Prefer) (s : Sides) where
-  is_resync : IsResync (resync_known mode s) (start_of s) (resync_paths s)
+  pub is_resync : IsResync (resync_known mode s) (start_of s) (resync_paths s)
   is_resync = resync_of_trees mode s.compare s.passes s.window1 s.window2 s.one s.two
 
   paths_are : ArePaths (resync_known mode s) (resync_paths s)

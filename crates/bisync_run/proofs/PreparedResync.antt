@@ -64,7 +64,7 @@ module _ (mode : Prefer) (s : Sides) (compare : Compare) (window1 window2 : Wind
 
 -- # Refusals
 
-fits : (entries : Entries) (header : Header) (limit : ℕ) (side : Side) (rows : Rows) → AreRowsOf entries side rows → length (listing_text header rows) ≤ most limit → Fits entries header limit side
+pub fits : (entries : Entries) (header : Header) (limit : ℕ) (side : Side) (rows : Rows) → AreRowsOf entries side rows → length (listing_text header rows) ≤ most limit → Fits entries header limit side
 fits entries header limit side rows are within = record { size = _; text = record { rows = rows; are = are; size_is = refl }; within = within }
 
 module _ (mode : Prefer) (limits : Limits) (f : WorkFolder) (s : Sides) (stamp : ℕ) (one : IsListable limits s.one) (two : IsListable limits s.two) (new : IsNewStamp limits.listing f stamp) where

@@ -29,10 +29,10 @@ use Rattle.bisync_run.specs.ResyncRefusals.{HasLongListing, IsResyncRefusal, Has
 too_many : (files bytes most_files most_bytes count sum : ℕ) → files ≡ count → bytes ≡ sum → count ≤ most_files → sum ≤ most_bytes → (most_files < files) ⊎ (most_bytes < bytes) → ⊥
 too_many files bytes most_files most_bytes count sum is is_sum few short over = omega arith
 
-over_not_listable : (limits : Limits) (tree : Tree) (files bytes : ℕ) → IsOver limits files bytes → AreOfTree tree files bytes → IsListable limits tree → ⊥
+pub over_not_listable : (limits : Limits) (tree : Tree) (files bytes : ℕ) → IsOver limits files bytes → AreOfTree tree files bytes → IsListable limits tree → ⊥
 over_not_listable limits tree files bytes over are within = too_many files bytes limits.files limits.names _ _ are.count are.sum within.few within.short over
 
-many_same : (side : Side) (tree : Tree) (m n a b : ℕ) → AreOfTree tree m a → AreOfTree tree n b → TooMany side m a ≡ TooMany side n b
+pub many_same : (side : Side) (tree : Tree) (m n a b : ℕ) → AreOfTree tree m a → AreOfTree tree n b → TooMany side m a ≡ TooMany side n b
 many_same side tree m n a b one two =
     let count : m ≡ n = one.count ∙ sym two.count in
     let sum : a ≡ b = one.sum ∙ sym two.sum in
@@ -43,7 +43,7 @@ many_same side tree m n a b one two =
 over_within : (m n most : ℕ) → m ≡ n → most < m → n ≤ most → ⊥
 over_within m n most is over within = omega arith
 
-long_not_fits : (entries : Entries) (header : Header) (limit : ℕ) (side : Side) (number : ℕ) → IsTooLong entries header limit side number → Fits entries header limit side → ⊥
+pub long_not_fits : (entries : Entries) (header : Header) (limit : ℕ) (side : Side) (number : ℕ) → IsTooLong entries header limit side number → Fits entries header limit side → ⊥
 long_not_fits entries header limit side number long fit =
     let same : long.size ≡ fit.size = long.text.size_is ∙ ap (λ (r : Rows). length (listing_text header r)) (rows_same entries side long.text.rows fit.text.rows long.text.are fit.text.are) ∙ sym fit.text.size_is in
     over_within long.size fit.size (most limit) same long.over fit.within

@@ -36,7 +36,7 @@ same_loses f g same filters = record {
 }
 
 module _ (f g : WorkFolder) where
-  new_same : but_new g ≡ but_new f → SameListings f g
+  pub new_same : but_new g ≡ but_new f → SameListings f g
   new_same e = record { one = ap (λ (x : WorkFolder). x.one) e; two = ap (λ (x : WorkFolder). x.two) e; one_old = ap (λ (x : WorkFolder). x.one_old) e; two_old = ap (λ (x : WorkFolder). x.two_old) e }
 
   pub new_loses : but_new g ≡ but_new f → Loses f g

@@ -16,3 +16,14 @@ pub mod HeldResyncs
 pub mod LockNew
 pub mod ResyncEnds
 pub mod ResyncRuns
+pub mod Starts
+pub mod Starting
+pub mod Courses
+pub mod OrdinaryRefusals
+pub mod OrdinaryEnds
+pub mod OrdinaryLooks
+pub mod Ordinary
+pub mod OrdinaryChanges
+pub mod OrdinaryRuns
+pub mod Agreement
+pub mod LookRuns

@@ -3,7 +3,7 @@
 ghost use Rattle.std.specs.Prelude.{◌≡◌, ◌≢◌, IsTrue, true, IfOk, IfErr, OnOk, None, option_copied};
 ghost use Rattle.bisync_device.specs.Work.{KeepsFolder};
 ghost use Rattle.bisync_tree.specs.Ranges.{IsLongEnough};
-ghost use Rattle.bisync_work.specs.Locks.{ChangesLock, IsFree};
+ghost use Rattle.bisync_work.specs.Locks.{ChangesLock, IsFree, KeepsBlocking};
 ghost use Rattle.bisync_run.specs.Counts.{counts, HasCauses};
 ghost use Rattle.bisync_run.specs.EndKinds.{is_before_lock};
 ghost use Rattle.bisync_run.specs.Entering.{IsEntryEnd, IsEntryEndWhere, IsHeldBack, IsRulesEnd, IsNoLock, session_of};
@@ -52,10 +52,12 @@ pub fn enter<W: Work, C: Clock>(
 ) -> Result<Entered, End>
     requires { IsLongEnough opts.now.max_lock }
     ensures rules { IsTrue W.tells → IfOk result (λ entered. AreRulesOf opts.now.filters (W.state work.old).folder.filters entered.rules entered.digest) }
+    ensures unfiltered { opts.now.filters ≡ None → IfOk result (λ entered. entered.digest ≡ None) }
     ensures free { IsTrue W.tells → IsTrue C.tells → OnOk result (IsFree (C.moment clock.old) (W.state work.old).folder.lock) }
     ensures refusal { IsTrue W.tells → IsTrue C.tells → IfErr result (IsEntryEnd opts.now.filters (W.state work.old).folder (C.moment clock.old)) }
     ensures entry { IsTrue W.tells → IfErr result (IsEntryEndWhere opts.now.filters (W.state work.old).folder C.tells (C.moment clock.old)) }
     ensures held_back { IsTrue C.tells → IfErr result (IsHeldBack (C.moment clock.old)) }
+    ensures blocked { IsTrue W.tells → IsTrue C.tells → KeepsBlocking (C.moment clock.old) (W.state work.old).folder (W.state work.new).folder }
     ensures only { IfErr result (λ end. is_before_lock end ≡ true) }
     ensures kind { IfErr result (IsUnlockedEnd opts.now.filters) }
     ensures kept { IsTrue W.tells → IfErr result (λ end. end ≢ End.WorkFault → (W.state work.new).folder ≡ (W.state work.old).folder) }
@@ -95,6 +97,7 @@ fn rules_of<W: Work>(
     work: &mut W,
 ) -> Result<(Rules, Option<[u8; 16]>), End>
     ensures rules { IsTrue W.tells → IfOk result (λ read. AreRulesOf opts.now.filters (W.state work.old).folder.filters read.0 read.1) }
+    ensures unfiltered { opts.now.filters ≡ None → IfOk result (λ read. read.1 ≡ None) }
     ensures refusal { IsTrue W.tells → IfErr result (IsRulesEnd opts.now.filters (W.state work.old).folder.filters) }
     ensures only { IfErr result (λ end. is_before_lock end ≡ true) }
     ensures kind { IfErr result (IsUnlockedEnd opts.now.filters) }

@@ -12,17 +12,17 @@ ghost use Rattle.bisync_work.specs.Stamps.{IsNewStamp};
 ghost use Rattle.bisync_run.specs.Counts.{counts, HasCauses};
 ghost use Rattle.bisync_run.specs.EndKinds.{is_unlocked, is_sink_fault};
 ghost use Rattle.bisync_run.specs.Grounds.{HasGrounds, IsTold};
-ghost use Rattle.bisync_run.specs.Looking.{OnlyLooks, IsWhyNoStamp, unplanned_end};
+ghost use Rattle.bisync_run.specs.Looking.{OnlyLooks, IsWhyNoStamp};
 ghost use Rattle.bisync_run.specs.ResyncEnds.{IsUnplannedEnd};
 ghost use Rattle.bisync_run.specs.ResyncRefusals.{AnswersResync, HasNoResyncRefusal};
 ghost use Rattle.bisync_run.specs.Sides.{compare_in, sides_of, resync_known, resync_paths};
 
 use crate::looking::{look_at_both, run_compare};
 use crate::prepared::Prepared;
+use crate::refusals::unplanned;
 use bisync_device::{Remote, Work};
 use bisync_filter::Rules;
 use bisync_opts::Opts;
-use bisync_plan::PlanFault;
 use bisync_plan::planning::plan_resync;
 use bisync_report::End;
 use bisync_tree::{Limits, Prefer};
@@ -87,7 +87,7 @@ pub fn look_resync<A: Remote, B: Remote, W: Work>(
             compare,
             plan,
         }),
-        Err(fault) => Err(refused(fault)),
+        Err(fault) => Err(unplanned(fault)),
     }
 }
 
@@ -104,17 +104,5 @@ fn new_stamp<W: Work>(alloc: Global, limits: &Limits, work: &mut W) -> Result<u6
         Ok(found) => Ok(found.stamp),
         Err(WorkFault::Failed) => Err(End::WorkFault),
         Err(WorkFault::OutOfMemory) => Err(End::OutOfMemory),
-    }
-}
-
-/// The end of a run that has no plan.
-fn refused(fault: PlanFault) -> End
-    ensures { result ≡ unplanned_end fault }
-{
-    match fault {
-        PlanFault::TooLong(side, path) => End::NameTooLong(side, path),
-        PlanFault::ListingTooLong(side, bytes) => End::ListingTooLong(side, bytes),
-        PlanFault::OutOfSync(path, one, two) => End::OutOfSync(path, one, two),
-        PlanFault::OutOfMemory => End::OutOfMemory,
     }
 }

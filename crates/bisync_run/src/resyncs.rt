@@ -1,6 +1,6 @@
 //! A resync that holds the lock.
 
-ghost use Rattle.std.specs.Prelude.{◌≡◌, ◌<◌, ◌++◌, ℕ, List, IsTrue, IfOk, IfErr, OnOk, None, true, false, length};
+ghost use Rattle.std.specs.Prelude.{◌≡◌, ◌++◌, ℕ, List, IsTrue, IfOk, IfErr, OnOk, None, true, false};
 ghost use Rattle.bisync_tree.specs.Ranges.{ComparesSome, IsLongEnough};
 ghost use Rattle.bisync_model.specs.Trees.{by_side};
 ghost use Rattle.bisync_device.specs.Faults.{Rose};
@@ -19,6 +19,7 @@ ghost use Rattle.bisync_run.specs.ResyncRefusals.{AnswersResync, HasNoResyncRefu
 ghost use Rattle.bisync_run.specs.Resyncs.{IsResynced, LeavesBase, LeavesTrees};
 ghost use Rattle.bisync_run.specs.Sides.{sides_of};
 
+use crate::buffers::copy_buffer;
 use crate::entering::Entered;
 use crate::resync_changes::carry_out;
 use crate::resync_looks::look_resync;
@@ -26,19 +27,8 @@ use crate::steps::Renewal;
 use bisync_device::{Clock, Remote, Sink, Work};
 use bisync_opts::Opts;
 use bisync_report::{End, plan_lines};
-use bisync_text::OutOfMemory;
 use bisync_tree::{Limits, Prefer};
 use std::alloc::Global;
-
-/// The bytes of the buffer through which files are copied.
-const BUFFER: usize = 65_536;
-
-/// The buffer through which files are copied.
-fn copy_buffer(alloc: Global) -> Result<Vec<u8>, OutOfMemory>
-    ensures { IfOk result (λ buffer. 0 < length buffer.items) }
-{
-    Ok(vec![in alloc; 0; BUFFER]?)
-}
 
 /// A resync by this mode, from both sides' attaching to the switch.
 pub fn resync<A: Remote, B: Remote, W: Work, C: Clock, S: Sink>(

@@ -1,6 +1,6 @@
 //! One run.
 
-ghost use Rattle.std.specs.Prelude.{◌≡◌, ◌≢◌, ◌++◌, ℕ, List, [], IsTrue, None, Some, true, false};
+ghost use Rattle.std.specs.Prelude.{◌≡◌, ◌≢◌, ◌++◌, ◌||◌, ℕ, List, [], IsTrue, None, Some, true, false};
 ghost use Rattle.bisync_tree.specs.declared.options.Prefer.{Prefer};
 ghost use Rattle.bisync_model.specs.Trees.{by_side};
 ghost use Rattle.bisync_device.specs.Faults.{Rose};
@@ -8,29 +8,33 @@ ghost use Rattle.bisync_device.specs.Remote.{KeepsTree};
 ghost use Rattle.bisync_device.specs.WorkFolder.{Absent, WorkFolder, IsSettled, IsImage};
 ghost use Rattle.bisync_opts.specs.Ranges.{IsInRange};
 ghost use Rattle.bisync_report.specs.LastLine.{last_text};
-ghost use Rattle.bisync_work.specs.Locks.{ChangesLock};
+ghost use Rattle.bisync_work.specs.Locks.{ChangesLock, KeepsBlocking};
+ghost use Rattle.bisync_work.specs.Moves.{IsFallen};
 ghost use Rattle.bisync_run.specs.Closing.{HasNoListings, but_fallen_or_lock};
 ghost use Rattle.bisync_run.specs.Counts.{counts, Later, Ends};
 ghost use Rattle.bisync_run.specs.EndKinds.{is_good, is_after_good, has_freed, is_unlocked, lets_fall, may_have_changed, may_tell_plan};
 ghost use Rattle.bisync_run.specs.Entering.{IsEntryEndWhere, IsHeldBack};
 ghost use Rattle.bisync_run.specs.Grounds.{HasGrounds, IsTold};
 ghost use Rattle.bisync_run.specs.LockNew.{KeepsLockNew};
+ghost use Rattle.bisync_run.specs.Ordinary.{but_ordinary_or_fallen};
+ghost use Rattle.bisync_run.specs.OrdinaryEnds.{IsOrdinaryEnd};
+ghost use Rattle.bisync_run.specs.OrdinaryRuns.{AnswersOrdinaryRun, HasOrdinaryNumbers, IsDoneBy, IsUnrefused, KeepsOrdinaryBaseOf, KeepsSafe, LeavesOrdinaryBaseOf, LeavesOrdinaryTreesOf, TellsOrdinaryRun};
 ghost use Rattle.bisync_run.specs.ResyncEnds.{IsResyncEnd};
 ghost use Rattle.bisync_run.specs.ResyncRuns.{AnswersRun, AreSetAsideBy, HasNoRefusal, IsResyncedBy, HasNumbers, LeavesBaseOf, LeavesTreesOf, TellsRun, LeavesLock, but_run};
+ghost use Rattle.bisync_run.specs.Sides.{compare_in};
 
 use crate::closing::{close, tell_end};
 use crate::entering::enter;
-use crate::resyncs::resync;
+use crate::held::held;
 use bisync_device::{Clock, Remote, Sink, Work};
-use bisync_opts::Opts;
+use bisync_opts::{CheckSync, Opts};
 use bisync_report::End;
-use bisync_tree::{Limits, Prefer};
+use bisync_tree::Limits;
 use std::alloc::Global;
 
-/// A resync up to its last line.
-fn resync_to_close<A: Remote, B: Remote, W: Work, C: Clock, S: Sink>(
+/// A run up to its last line.
+fn run_to_close<A: Remote, B: Remote, W: Work, C: Clock, S: Sink>(
     alloc: Global,
-    mode: Prefer,
     opts: &Opts,
     limits: &Limits,
     one: &mut A,
@@ -40,19 +44,38 @@ fn resync_to_close<A: Remote, B: Remote, W: Work, C: Clock, S: Sink>(
     sink: &mut S,
 ) -> End
     requires { IsInRange opts.now }
-    ensures answers { IsTrue A.tells → IsTrue B.tells → IsTrue W.tells →
+    ensures answers { (mode : Prefer) → opts.now.resync ≡ Some mode → IsTrue A.tells → IsTrue B.tells → IsTrue W.tells →
         AnswersRun mode opts.now limits.now (W.state work.old).folder (by_side (A.state one.old) (B.state two.old)) C.tells (C.moment clock.old) result }
-    ensures accepted { IsTrue A.tells → IsTrue B.tells → IsTrue W.tells → is_after_good result ≡ true →
+    ensures accepted { (mode : Prefer) → opts.now.resync ≡ Some mode → IsTrue A.tells → IsTrue B.tells → IsTrue W.tells → is_after_good result ≡ true →
         HasNoRefusal mode opts.now limits.now (W.state work.old).folder (by_side (A.state one.old) (B.state two.old)) C.tells (C.moment clock.old) }
-    ensures resynced { IsTrue A.tells → IsTrue B.tells → IsTrue W.tells → opts.now.dry_run ≡ false → is_after_good result ≡ true →
+    ensures resynced { (mode : Prefer) → opts.now.resync ≡ Some mode → IsTrue A.tells → IsTrue B.tells → IsTrue W.tells → opts.now.dry_run ≡ false → is_after_good result ≡ true →
         IsResyncedBy mode opts.now limits.now (W.state work.old).folder (by_side (A.state one.old) (B.state two.old)) (W.state work.new).folder (by_side (A.state one.new) (B.state two.new)) }
-    ensures set_aside { IsTrue W.tells → opts.now.dry_run ≡ false → is_after_good result ≡ true → AreSetAsideBy opts.now (W.state work.old).folder (W.state work.new).folder }
-    ensures only { IsResyncEnd opts.now result }
-    ensures numbers { IsTrue A.tells → IsTrue B.tells → IsTrue W.tells → is_good result ≡ true → HasNumbers mode opts.now (W.state work.old).folder (by_side (A.state one.old) (B.state two.old)) result }
-    ensures base { IsTrue A.tells → IsTrue B.tells → IsTrue W.tells →
+    ensures set_aside { (mode : Prefer) → opts.now.resync ≡ Some mode → IsTrue W.tells → opts.now.dry_run ≡ false → is_after_good result ≡ true → AreSetAsideBy opts.now (W.state work.old).folder (W.state work.new).folder }
+    ensures only { (mode : Prefer) → opts.now.resync ≡ Some mode → IsResyncEnd opts.now result }
+    ensures numbers { (mode : Prefer) → opts.now.resync ≡ Some mode → IsTrue A.tells → IsTrue B.tells → IsTrue W.tells → is_good result ≡ true → HasNumbers mode opts.now (W.state work.old).folder (by_side (A.state one.old) (B.state two.old)) result }
+    ensures base { (mode : Prefer) → opts.now.resync ≡ Some mode → IsTrue A.tells → IsTrue B.tells → IsTrue W.tells →
         LeavesBaseOf mode opts.now limits.now (W.state work.old).folder (by_side (A.state one.old) (B.state two.old)) (W.state work.new).folder (by_side (A.state one.new) (B.state two.new)) }
-    ensures trees { IsTrue A.tells → IsTrue B.tells → IsTrue W.tells →
+    ensures trees { (mode : Prefer) → opts.now.resync ≡ Some mode → IsTrue A.tells → IsTrue B.tells → IsTrue W.tells →
         LeavesTreesOf mode opts.now limits.now (W.state work.old).folder (by_side (A.state one.old) (B.state two.old)) C.tells (C.moment clock.old) (by_side (A.state one.new) (B.state two.new)) }
+    ensures run_answers { opts.now.resync ≡ None → IsTrue A.tells → IsTrue B.tells → IsTrue W.tells →
+        AnswersOrdinaryRun opts.now limits.now (W.state work.old).folder (by_side (A.state one.old) (B.state two.old)) C.tells (C.moment clock.old) result }
+    ensures unrefused { opts.now.resync ≡ None → IsTrue A.tells → IsTrue B.tells → IsTrue W.tells → is_after_good result ≡ true →
+        IsUnrefused opts.now limits.now (W.state work.old).folder (by_side (A.state one.old) (B.state two.old)) C.tells (C.moment clock.old) }
+    ensures done { opts.now.resync ≡ None → IsTrue A.tells → IsTrue B.tells → IsTrue W.tells → opts.now.dry_run ≡ false → opts.now.check_sync ≢ CheckSync.Only → is_after_good result ≡ true →
+        IsDoneBy opts.now limits.now (W.state work.old).folder (by_side (A.state one.old) (B.state two.old)) (W.state work.new).folder (by_side (A.state one.new) (B.state two.new)) }
+    ensures run_numbers { opts.now.resync ≡ None → IsTrue A.tells → IsTrue B.tells → IsTrue W.tells → is_good result ≡ true → HasOrdinaryNumbers opts.now limits.now (W.state work.old).folder (by_side (A.state one.old) (B.state two.old)) result }
+    ensures run_base { opts.now.resync ≡ None → IsTrue A.tells → IsTrue B.tells → IsTrue W.tells →
+        LeavesOrdinaryBaseOf opts.now limits.now (W.state work.old).folder (by_side (A.state one.old) (B.state two.old)) (W.state work.new).folder (by_side (A.state one.new) (B.state two.new)) }
+    ensures resilient_base { opts.now.resync ≡ None → IsTrue A.tells → IsTrue B.tells → IsTrue W.tells → (opts.now.resilient || opts.now.dry_run) ≡ true →
+        KeepsOrdinaryBaseOf opts.now limits.now (W.state work.old).folder (by_side (A.state one.old) (B.state two.old)) (W.state work.new).folder (by_side (A.state one.new) (B.state two.new)) }
+    ensures run_trees { opts.now.resync ≡ None → IsTrue A.tells → IsTrue B.tells → IsTrue W.tells →
+        LeavesOrdinaryTreesOf opts.now limits.now (W.state work.old).folder (by_side (A.state one.old) (B.state two.old)) C.tells (C.moment clock.old) (by_side (A.state one.new) (B.state two.new)) }
+    ensures run_rest { opts.now.resync ≡ None → IsTrue W.tells → but_ordinary_or_fallen (W.state work.new).folder ≡ but_ordinary_or_fallen (W.state work.old).folder }
+    ensures only_run { opts.now.resync ≡ None → IsOrdinaryEnd opts.now (compare_in opts.now.compare (A.state one.old).window (B.state two.old).window) result }
+    ensures only_one { opts.now.resync ≡ None → opts.now.check_sync ≡ CheckSync.Only → KeepsTree A.tells (A.state one.old) (A.state one.new) }
+    ensures only_two { opts.now.resync ≡ None → opts.now.check_sync ≡ CheckSync.Only → KeepsTree B.tells (B.state two.old) (B.state two.new) }
+    ensures only_base { opts.now.resync ≡ None → opts.now.check_sync ≡ CheckSync.Only → IsTrue W.tells → is_after_good result ≡ true → ChangesLock (W.state work.old).folder (W.state work.new).folder }
+    ensures blocked { IsTrue W.tells → IsTrue C.tells → KeepsBlocking (C.moment clock.old) (W.state work.old).folder (W.state work.new).folder }
     ensures settled { IsTrue W.tells → IsSettled (W.state work.old).folder → IsSettled (W.state work.new).folder }
     ensures rest { IsTrue W.tells → but_run (W.state work.new).folder ≡ but_run (W.state work.old).folder }
     ensures untouched_one { may_have_changed result ≡ false → KeepsTree A.tells (A.state one.old) (A.state one.new) }
@@ -60,6 +83,7 @@ fn resync_to_close<A: Remote, B: Remote, W: Work, C: Clock, S: Sink>(
     ensures kept { IsTrue W.tells → may_have_changed result ≡ false → lets_fall opts.now.resilient opts.now.dry_run result ≡ false → ChangesLock (W.state work.old).folder (W.state work.new).folder }
     ensures only_fallen { IsTrue W.tells → may_have_changed result ≡ false → but_fallen_or_lock (W.state work.new).folder ≡ but_fallen_or_lock (W.state work.old).folder }
     ensures fallen { IsTrue W.tells → lets_fall opts.now.resilient opts.now.dry_run result ≡ true → (Rose (W.state work.old).faults (W.state work.new).faults → ⊥) → HasNoListings (W.state work.new).folder }
+    ensures fell { IsTrue W.tells → may_have_changed result ≡ false → lets_fall opts.now.resilient opts.now.dry_run result ≡ true → (Rose (W.state work.old).faults (W.state work.new).faults → ⊥) → IsFallen (W.state work.old).folder (W.state work.new).folder }
     ensures dry_one { opts.now.dry_run ≡ true → KeepsTree A.tells (A.state one.old) (A.state one.new) }
     ensures dry_two { opts.now.dry_run ≡ true → KeepsTree B.tells (B.state two.old) (B.state two.new) }
     ensures dry { IsTrue W.tells → opts.now.dry_run ≡ true → ChangesLock (W.state work.old).folder (W.state work.new).folder }
@@ -80,16 +104,16 @@ fn resync_to_close<A: Remote, B: Remote, W: Work, C: Clock, S: Sink>(
     ensures quiet { IsTrue S.tells → (Rose (S.state sink.old).faults (S.state sink.new).faults → ⊥) → may_tell_plan result ≡ false → (S.state sink.new).bytes ≡ (S.state sink.old).bytes }
     ensures lines { IsTrue S.tells → (lines : List ℕ) × ((S.state sink.new).bytes ≡ (S.state sink.old).bytes ++ lines) }
     ensures built { result ≢ End.NotBuilt }
-    ensures report { IsTrue A.tells → IsTrue B.tells → IsTrue S.tells → IsTrue W.tells →
+    ensures report { (mode : Prefer) → opts.now.resync ≡ Some mode → IsTrue A.tells → IsTrue B.tells → IsTrue S.tells → IsTrue W.tells →
         TellsRun mode opts.now (W.state work.old).folder (by_side (A.state one.old) (B.state two.old)) (by_side (A.state one.new) (B.state two.new)) (S.state sink.old).bytes [] (S.state sink.new).bytes result }
+    ensures run_report { opts.now.resync ≡ None → IsTrue A.tells → IsTrue B.tells → IsTrue W.tells → IsTrue S.tells →
+        TellsOrdinaryRun opts.now limits.now (W.state work.old).folder (by_side (A.state one.old) (B.state two.old)) (by_side (A.state one.new) (B.state two.new)) (S.state sink.old).bytes [] (S.state sink.new).bytes result }
 {
     let entered = match enter(alloc, opts, work, clock) {
         Ok(entered) => entered,
         Err(end) => return end,
     };
-    let ended = resync(
-        alloc, mode, opts, limits, &entered, one, two, work, clock, sink,
-    );
+    let ended = held(alloc, opts, limits, &entered, one, two, work, clock, sink);
     close(opts, work, ended)
 }
 
@@ -121,6 +145,31 @@ pub fn run<A: Remote, B: Remote, W: Work, C: Clock, S: Sink>(
         LeavesBaseOf mode opts.now limits.now (W.state work.old).folder (by_side (A.state one.old) (B.state two.old)) image (by_side (A.state one.new) (B.state two.new)) }
     ensures trees { IsTrue A.tells → IsTrue B.tells → IsTrue W.tells → (mode : Prefer) → opts.now.resync ≡ Some mode →
         LeavesTreesOf mode opts.now limits.now (W.state work.old).folder (by_side (A.state one.old) (B.state two.old)) C.tells (C.moment clock.old) (by_side (A.state one.new) (B.state two.new)) }
+    ensures run_answers { opts.now.resync ≡ None → IsTrue A.tells → IsTrue B.tells → IsTrue W.tells →
+        AnswersOrdinaryRun opts.now limits.now (W.state work.old).folder (by_side (A.state one.old) (B.state two.old)) C.tells (C.moment clock.old) result }
+    ensures unrefused { opts.now.resync ≡ None → IsTrue A.tells → IsTrue B.tells → IsTrue W.tells → is_after_good result ≡ true →
+        IsUnrefused opts.now limits.now (W.state work.old).folder (by_side (A.state one.old) (B.state two.old)) C.tells (C.moment clock.old) }
+    ensures done { opts.now.resync ≡ None → IsTrue A.tells → IsTrue B.tells → IsTrue W.tells → opts.now.dry_run ≡ false → opts.now.check_sync ≢ CheckSync.Only → is_after_good result ≡ true →
+        IsDoneBy opts.now limits.now (W.state work.old).folder (by_side (A.state one.old) (B.state two.old)) (W.state work.new).folder (by_side (A.state one.new) (B.state two.new)) }
+    ensures run_numbers { opts.now.resync ≡ None → IsTrue A.tells → IsTrue B.tells → IsTrue W.tells → is_good result ≡ true → HasOrdinaryNumbers opts.now limits.now (W.state work.old).folder (by_side (A.state one.old) (B.state two.old)) result }
+    ensures run_base { opts.now.resync ≡ None → IsTrue A.tells → IsTrue B.tells → IsTrue W.tells →
+        LeavesOrdinaryBaseOf opts.now limits.now (W.state work.old).folder (by_side (A.state one.old) (B.state two.old)) (W.state work.new).folder (by_side (A.state one.new) (B.state two.new)) }
+    ensures resilient_base { opts.now.resync ≡ None → IsTrue A.tells → IsTrue B.tells → IsTrue W.tells → (opts.now.resilient || opts.now.dry_run) ≡ true →
+        KeepsOrdinaryBaseOf opts.now limits.now (W.state work.old).folder (by_side (A.state one.old) (B.state two.old)) (W.state work.new).folder (by_side (A.state one.new) (B.state two.new)) }
+    ensures run_trees { opts.now.resync ≡ None → IsTrue A.tells → IsTrue B.tells → IsTrue W.tells →
+        LeavesOrdinaryTreesOf opts.now limits.now (W.state work.old).folder (by_side (A.state one.old) (B.state two.old)) C.tells (C.moment clock.old) (by_side (A.state one.new) (B.state two.new)) }
+    ensures run_rest { opts.now.resync ≡ None → IsTrue W.tells → but_ordinary_or_fallen (W.state work.new).folder ≡ but_ordinary_or_fallen (W.state work.old).folder }
+    ensures only_run { opts.now.resync ≡ None → IsOrdinaryEnd opts.now (compare_in opts.now.compare (A.state one.old).window (B.state two.old).window) result }
+    ensures run_images { opts.now.resync ≡ None → IsTrue A.tells → IsTrue B.tells → IsTrue W.tells →
+        IsSettled (W.state work.old).folder → (image : WorkFolder) → IsImage (W.state work.new).folder image → LeavesOrdinaryBaseOf opts.now limits.now (W.state work.old).folder (by_side (A.state one.old) (B.state two.old)) image (by_side (A.state one.new) (B.state two.new)) }
+    ensures resilient_images { opts.now.resync ≡ None → IsTrue A.tells → IsTrue B.tells → IsTrue W.tells → (opts.now.resilient || opts.now.dry_run) ≡ true →
+        IsSettled (W.state work.old).folder → (image : WorkFolder) → IsImage (W.state work.new).folder image → KeepsOrdinaryBaseOf opts.now limits.now (W.state work.old).folder (by_side (A.state one.old) (B.state two.old)) image (by_side (A.state one.new) (B.state two.new)) }
+    ensures safe { opts.now.resync ≡ None → IsTrue A.tells → IsTrue B.tells → IsTrue W.tells →
+        IsSettled (W.state work.old).folder → (image : WorkFolder) → IsImage (W.state work.new).folder image → KeepsSafe opts.now limits.now (W.state work.old).folder (by_side (A.state one.old) (B.state two.old)) image (by_side (A.state one.new) (B.state two.new)) }
+    ensures only_one { opts.now.resync ≡ None → opts.now.check_sync ≡ CheckSync.Only → KeepsTree A.tells (A.state one.old) (A.state one.new) }
+    ensures only_two { opts.now.resync ≡ None → opts.now.check_sync ≡ CheckSync.Only → KeepsTree B.tells (B.state two.old) (B.state two.new) }
+    ensures only_base { opts.now.resync ≡ None → opts.now.check_sync ≡ CheckSync.Only → IsTrue W.tells → is_after_good result ≡ true → ChangesLock (W.state work.old).folder (W.state work.new).folder }
+    ensures blocked { IsTrue W.tells → IsTrue C.tells → KeepsBlocking (C.moment clock.old) (W.state work.old).folder (W.state work.new).folder }
     ensures settled { IsTrue W.tells → IsSettled (W.state work.old).folder → IsSettled (W.state work.new).folder }
     ensures rest { IsTrue W.tells → but_run (W.state work.new).folder ≡ but_run (W.state work.old).folder }
     ensures untouched_one { may_have_changed result ≡ false → KeepsTree A.tells (A.state one.old) (A.state one.new) }
@@ -128,10 +177,11 @@ pub fn run<A: Remote, B: Remote, W: Work, C: Clock, S: Sink>(
     ensures kept { IsTrue W.tells → may_have_changed result ≡ false → lets_fall opts.now.resilient opts.now.dry_run result ≡ false → ChangesLock (W.state work.old).folder (W.state work.new).folder }
     ensures only_fallen { IsTrue W.tells → may_have_changed result ≡ false → but_fallen_or_lock (W.state work.new).folder ≡ but_fallen_or_lock (W.state work.old).folder }
     ensures fallen { IsTrue W.tells → lets_fall opts.now.resilient opts.now.dry_run result ≡ true → (Rose (W.state work.old).faults (W.state work.new).faults → ⊥) → HasNoListings (W.state work.new).folder }
+    ensures fell { IsTrue W.tells → may_have_changed result ≡ false → lets_fall opts.now.resilient opts.now.dry_run result ≡ true → (Rose (W.state work.old).faults (W.state work.new).faults → ⊥) → IsFallen (W.state work.old).folder (W.state work.new).folder }
     ensures dry_one { opts.now.dry_run ≡ true → KeepsTree A.tells (A.state one.old) (A.state one.new) }
     ensures dry_two { opts.now.dry_run ≡ true → KeepsTree B.tells (B.state two.old) (B.state two.new) }
     ensures dry { IsTrue W.tells → opts.now.dry_run ≡ true → ChangesLock (W.state work.old).folder (W.state work.new).folder }
-    ensures lock { IsTrue W.tells → (mode : Prefer) → opts.now.resync ≡ Some mode → (Rose (W.state work.old).faults (W.state work.new).faults → ⊥) → LeavesLock result (W.state work.old).folder (W.state work.new).folder }
+    ensures lock { IsTrue W.tells → (Rose (W.state work.old).faults (W.state work.new).faults → ⊥) → LeavesLock result (W.state work.old).folder (W.state work.new).folder }
     ensures freed { IsTrue W.tells → has_freed result ≡ true → (W.state work.new).folder.lock ≡ Absent }
     ensures lock_new { IsTrue W.tells → (Rose (W.state work.old).faults (W.state work.new).faults → ⊥) → KeepsLockNew (W.state work.old).folder (W.state work.new).folder }
     ensures no_digest { IsTrue W.tells → opts.now.filters ≡ None → (W.state work.new).folder.filters_md5 ≡ (W.state work.old).folder.filters_md5 }
@@ -147,14 +197,15 @@ pub fn run<A: Remote, B: Remote, W: Work, C: Clock, S: Sink>(
     ensures causes { Ends (counts (A.state one.old).faults (B.state two.old).faults (W.state work.old).faults (S.state sink.old).faults) (counts (A.state one.new).faults (B.state two.new).faults (W.state work.new).faults (S.state sink.new).faults) result }
     ensures quiet { IsTrue S.tells → (Rose (S.state sink.old).faults (S.state sink.new).faults → ⊥) → may_tell_plan result ≡ false → (S.state sink.new).bytes ≡ (S.state sink.old).bytes ++ last_text result }
     ensures lines { IsTrue S.tells → (Rose (S.state sink.old).faults (S.state sink.new).faults → ⊥) → (lines : List ℕ) × ((S.state sink.new).bytes ≡ ((S.state sink.old).bytes ++ lines) ++ last_text result) }
-    ensures built { (mode : Prefer) → opts.now.resync ≡ Some mode → result ≢ End.NotBuilt }
+    ensures built { result ≢ End.NotBuilt }
     ensures report { IsTrue A.tells → IsTrue B.tells → IsTrue S.tells → IsTrue W.tells → (mode : Prefer) → opts.now.resync ≡ Some mode →
         (Rose (S.state sink.old).faults (S.state sink.new).faults → ⊥) →
         TellsRun mode opts.now (W.state work.old).folder (by_side (A.state one.old) (B.state two.old)) (by_side (A.state one.new) (B.state two.new)) (S.state sink.old).bytes (last_text result) (S.state sink.new).bytes result }
+    ensures run_report { opts.now.resync ≡ None → IsTrue A.tells → IsTrue B.tells → IsTrue W.tells → IsTrue S.tells → (Rose (S.state sink.old).faults (S.state sink.new).faults → ⊥) →
+        TellsOrdinaryRun opts.now limits.now (W.state work.old).folder (by_side (A.state one.old) (B.state two.old)) (by_side (A.state one.new) (B.state two.new)) (S.state sink.old).bytes (last_text result) (S.state sink.new).bytes result }
 {
-    let Some(mode) = opts.resync else {
-        return tell_end(sink, End::NotBuilt);
-    };
-    let end = resync_to_close(alloc, mode, opts, limits, one, two, work, clock, sink);
+    // Read here, so that its range is known to the proof.
+    let _limit = limits.listing;
+    let end = run_to_close(alloc, opts, limits, one, two, work, clock, sink);
     tell_end(sink, end)
 }

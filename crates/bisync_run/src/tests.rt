@@ -1,6 +1,12 @@
+mod conflict_rows;
 mod devices;
 mod failures;
+mod files;
+mod looks;
+mod recoveries;
 mod refusals;
-mod renewals;
-mod resyncs;
+mod resync_rows;
+mod rows;
+mod scripts;
+mod stopped_rows;
 mod untold;

@@ -1,11 +1,10 @@
-//! A resync of two folders of a disk.
+//! Two folders of a disk: a resync, a run without a change, and a run with some.
 
 use super::devices::words_of;
 use crate::answers::Answer;
 use crate::top::bisync_main;
 use bisync_local::{LocalRemote, LocalWork, SystemClock};
 use bisync_memory::MemSink;
-use bisync_report::End;
 use bisync_text::Text;
 use std::fs;
 use std::test::Fail;
@@ -22,11 +21,31 @@ const COPIES: [(&str, &str); 3] = [
     ("room/two/z", "333"),
 ];
 
-const REPORT: &str = "copy path1 path2 \"x\"
+const RESYNC: &str = "bisync room/one room/two --workdir room/work --resync";
+
+const RUN: &str = "bisync room/one room/two --workdir room/work";
+
+const COPIED: &str = "copy path1 path2 \"x\"
 copy path1 path2 \"y\"
 copy path1 path2 \"z\"
 bisync: resync done, 0 changes on path1, 3 changes on path2
 ";
+
+const QUIET: &str = "bisync: done, 0 changes on path1, 0 changes on path2\n";
+
+const CHANGED: &str = "path1 deleted \"x\"
+path2 newer \"y\"
+delete path2 \"x\"
+copy path2 path1 \"y\"
+bisync: done, 1 changes on path1, 1 changes on path2
+";
+
+const KEPT: [(&str, &str); 4] = [
+    ("room/one/y", "changed"),
+    ("room/two/y", "changed"),
+    ("room/one/z", "333"),
+    ("room/two/z", "333"),
+];
 
 /// Makes the two folders, the files on Path1.
 fn make_room(rt: &HostRuntime) -> Result<(), Fail> {
@@ -65,17 +84,28 @@ fn are_read(rt: &HostRuntime, files: &[(&str, &str)]) -> Result<bool, Fail> {
     Ok(true)
 }
 
-#[test]
-fn two_folders_are_resynced(rt: HostRuntime) -> Result<(), Fail> {
-    make_room(&rt)?;
+/// Asks by these words, which end well and tell this.
+fn told(rt: &HostRuntime, line: &'static str, report: &str) -> Result<(), Fail> {
     let mut sink = MemSink::new(rt.alloc());
-    let line = "bisync room/one room/two --resync --workdir room/work";
-    let answer = ask(&rt, &words_of(rt.alloc(), line)?, &mut sink);
-    let is_end = matches!(answer.end, End::Resynced { one: 0, two: 3 });
-    if answer.status != 0 || !is_end || sink.bytes() != REPORT.as_bytes() {
-        return Err(Fail::new("the answer"));
+    let answer = ask(rt, &words_of(rt.alloc(), line)?, &mut sink);
+    if answer.status != 0 || sink.bytes() != report.as_bytes() {
+        return Err(Fail::new(line));
     }
+    Ok(())
+}
+
+#[test]
+fn two_folders_are_kept_equal(rt: HostRuntime) -> Result<(), Fail> {
+    make_room(&rt)?;
+    told(&rt, RESYNC, COPIED)?;
+    told(&rt, RUN, QUIET)?;
     if !are_read(&rt, &FILES)? || !are_read(&rt, &COPIES)? {
+        return Err(Fail::new("the copies"));
+    }
+    fs::remove_file(&rt, "room/one/x")?;
+    fs::write(&rt, "room/two/y", "changed")?;
+    told(&rt, RUN, CHANGED)?;
+    if !are_read(&rt, &KEPT)? || fs::exists(&rt, "room/two/x")? {
         return Err(Fail::new("the files"));
     }
     fs::remove_dir_all(&rt, "room")?;

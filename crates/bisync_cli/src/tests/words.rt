@@ -64,9 +64,10 @@ fn refusals(alloc: Global, devices: &mut Devices) -> Result<(), Fail> {
 
 fn not_built(alloc: Global, devices: &mut Devices) -> Result<(), Fail> {
     let rows = [
-        "bisync L R",
         "bisync L R --backup-dir1 K",
-        "bisync L R --resync --create-empty-src-dirs",
+        "bisync L R --backup-dir2 K --force",
+        "bisync L R --track-renames --compare size,checksum",
+        "bisync L R --create-empty-src-dirs",
         "bisync L R --resync --remove-empty-dirs",
         "demo 1000",
         "check L R",

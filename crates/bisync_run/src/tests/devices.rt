@@ -3,42 +3,19 @@
 ghost use Rattle.std.specs.Prelude.{IfOk};
 ghost use Rattle.bisync_opts.specs.Ranges.{IsInRange};
 
+use super::files::{has_files, set_files};
 use crate::run;
-use bisync_device::{Clock, WorkName};
+use bisync_device::{Clock, Wakes, Work, WorkName, WorkWakes};
 use bisync_memory::{FixedClock, MemRemote, MemSink, MemWork};
 use bisync_opts::{OptFault, Opts, read_options};
 use bisync_report::End;
-use bisync_text::{Path, Text};
-use bisync_tree::{File, Limits, Side};
+use bisync_text::Text;
+use bisync_tree::{Limits, Side};
 use std::alloc::Global;
 use std::test::Fail;
 
-pub const SECOND: i64 = 1_000_000_000;
-
-/// The listing of three files of one to three bytes, which are as many seconds old as 1970.
-pub const THREE: &[u8] = b"# bisync listing v2 stamp 1 fields size,modtime
-- 1 - - 1970-01-01T00:00:01.000000000+0000 \"x\"
-- 2 - - 1970-01-01T00:00:02.000000000+0000 \"y\"
-- 3 - - 1970-01-01T00:00:03.000000000+0000 \"z\"
-# end 3 files
-";
-
-const NAMES: [WorkName; 14] = [
-    WorkName::One,
-    WorkName::Two,
-    WorkName::OneOld,
-    WorkName::TwoOld,
-    WorkName::OneNew,
-    WorkName::TwoNew,
-    WorkName::OneErr,
-    WorkName::TwoErr,
-    WorkName::Lock,
-    WorkName::LockNew,
-    WorkName::Folders,
-    WorkName::FoldersNew,
-    WorkName::Filters,
-    WorkName::FiltersMd5,
-];
+/// The moment of a run that is given no other one, ten minutes after the beginning of 1970.
+pub const NOW: i64 = 600_000_000_000;
 
 /// The words between single spaces.
 fn words(alloc: Global, line: &str) -> Result<Vec<Text>, OptFault> {
@@ -71,7 +48,7 @@ pub enum Device {
 /// Two sides, a work folder and a report.
 #[derive(Drop)]
 pub struct Devices {
-    alloc: Global,
+    pub alloc: Global,
     pub one: MemRemote,
     pub two: MemRemote,
     pub work: MemWork,
@@ -89,83 +66,20 @@ impl Devices {
         }
     }
 
-    /// Devices whose Path1 has the files of `THREE`.
-    pub fn with_three(alloc: Global) -> Result<Devices, Fail> {
-        let mut devices = Devices::new(alloc);
-        devices.put(Side::One, "x", "1", 1)?;
-        devices.put(Side::One, "y", "22", 2)?;
-        devices.put(Side::One, "z", "333", 3)?;
-        Ok(devices)
-    }
-
-    pub fn put(&mut self, side: Side, path: &str, bytes: &str, seconds: i32) -> Result<(), Fail> {
-        let path = Path::read(self.alloc, path.as_bytes())?;
-        let bytes = Text::from_bytes(self.alloc, bytes.as_bytes())?;
-        let file = File {
-            bytes,
-            time: seconds as i64 * SECOND,
-        };
+    /// Puts files on a side, and takes files away.
+    pub fn set(&mut self, side: Side, files: &str) -> Result<(), Fail> {
         match side {
-            Side::One => self.one.put(&path, &file)?,
-            Side::Two => self.two.put(&path, &file)?,
+            Side::One => set_files(self.alloc, &mut self.one, files),
+            Side::Two => set_files(self.alloc, &mut self.two, files),
         }
-        Ok(())
     }
 
-    /// Whether a side has a file of these bytes and this time.
-    pub fn has(&self, side: Side, path: &str, bytes: &str, seconds: i32) -> Result<bool, Fail> {
-        let path = Path::read(self.alloc, path.as_bytes())?;
-        let file = match side {
-            Side::One => self.one.get(&path),
-            Side::Two => self.two.get(&path),
-        };
-        Ok(match file {
-            Some(file) => {
-                file.bytes.as_bytes() == bytes.as_bytes() && file.time == seconds as i64 * SECOND
-            }
-            None => false,
-        })
-    }
-
-    /// Whether a side has the files of `THREE`.
-    pub fn has_three(&self, side: Side) -> Result<bool, Fail> {
-        Ok(
-            self.has(side, "x", "1", 1)?
-                && self.has(side, "y", "22", 2)?
-                && self.has(side, "z", "333", 3)?,
-        )
-    }
-
-    /// Whether Path2 has no file at these paths.
-    pub fn two_lacks(&self, paths: &[&str]) -> Result<bool, Fail> {
-        for path in paths {
-            let path = Path::read(self.alloc, path.as_bytes())?;
-            if self.two.get(&path).is_some() {
-                return Ok(false);
-            }
+    /// Whether a side has these files, and no others.
+    pub fn has(&mut self, side: Side, files: &str) -> Result<bool, Fail> {
+        match side {
+            Side::One => has_files(self.alloc, &mut self.one, files),
+            Side::Two => has_files(self.alloc, &mut self.two, files),
         }
-        Ok(true)
-    }
-
-    /// Puts bytes under a name of the work folder.
-    pub fn hold(&mut self, name: WorkName, bytes: &[u8]) -> Result<(), Fail> {
-        Ok(self.work.put(name, bytes)?)
-    }
-
-    /// Whether the work folder has these bytes under a name.
-    pub fn holds(&self, name: WorkName, bytes: &[u8]) -> bool {
-        self.work.get(name) == Some(bytes)
-    }
-
-    /// Whether the work folder has these names with these bytes, and no others.
-    pub fn holds_only(&self, names: &[(WorkName, &[u8])]) -> bool {
-        for name in NAMES {
-            let wanted = names.iter().find(|held| held.0 == name).map(|held| held.1);
-            if self.work.get(name) != wanted {
-                return false;
-            }
-        }
-        true
     }
 
     /// Lets a call of a device fail.
@@ -189,9 +103,20 @@ impl Devices {
         }
     }
 
-    /// Whether the report is this.
-    pub fn has_told(&self, report: &str) -> bool {
-        self.sink.bytes() == report.as_bytes()
+    /// Stops the sides and the work folder after so many more calls of each.
+    pub fn stop_after(&mut self, one: u64, two: u64, work: u64) {
+        self.one.arm(one);
+        self.two.arm(two);
+        self.work.arm(work);
+    }
+
+    /// Wakes all devices after a stop, and removes the lock.
+    pub fn wake(&mut self) -> Result<(), Fail> {
+        self.one.wake();
+        self.two.wake();
+        self.work.wake();
+        let _ = self.work.remove(WorkName::Lock)?;
+        Ok(())
     }
 
     /// A run by these words, within these limits and by this clock.
@@ -214,8 +139,8 @@ impl Devices {
         ))
     }
 
-    /// A run by these words at a moment.
-    pub fn run(&mut self, words: &str, now: i64) -> Result<End, Fail> {
-        self.run_by(words, &Limits::REAL, &mut FixedClock::new(now))
+    /// A run by these words.
+    pub fn run(&mut self, words: &str) -> Result<End, Fail> {
+        self.run_by(words, &Limits::REAL, &mut FixedClock::new(NOW))
     }
 }

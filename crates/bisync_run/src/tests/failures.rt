@@ -15,6 +15,15 @@ const CALLS: [(Device, u64); 4] = [
     (Device::Sink, 2),
 ];
 
+const THREE: &str = "x=1@1 y=22@2 z=333@3";
+
+/// Devices whose Path1 has three files.
+fn with_three(alloc: Global) -> Result<Devices, Fail> {
+    let mut devices = Devices::new(alloc);
+    devices.set(Side::One, THREE)?;
+    Ok(devices)
+}
+
 /// Whether the end tells of the device. The last call of the work folder frees the lock, and the last
 /// of the report tells the end.
 fn tells_of(end: &End, device: Device, is_last: bool) -> bool {
@@ -40,7 +49,7 @@ fn has_no_wrong_base(alloc: Global, devices: &mut Devices) -> Result<bool, Fail>
         return Ok(true);
     }
     let is_new = found.one.len() == 3 && found.two.len() == 3 && found.stamp == 2;
-    Ok(is_new && devices.has_three(Side::Two)?)
+    Ok(is_new && devices.has(Side::Two, THREE)?)
 }
 
 /// Whether a resync in which this call fails ends as it should.
@@ -51,9 +60,9 @@ fn fails_well(
     done: bool,
     is_last: bool,
 ) -> Result<bool, Fail> {
-    let mut devices = Devices::with_three(alloc)?;
+    let mut devices = with_three(alloc)?;
     devices.fail_at(device, call, done)?;
-    let is_told = tells_of(&devices.run("L R --resync", 0)?, device, is_last);
+    let is_told = tells_of(&devices.run("L R --resync")?, device, is_last);
     Ok(is_told && has_no_wrong_base(alloc, &mut devices)?)
 }
 
@@ -72,8 +81,8 @@ fn each_failed_call_is_told_and_leaves_no_wrong_base(rt: HostRuntime) -> Result<
 
 #[test]
 fn a_resync_of_three_files_makes_these_calls(rt: HostRuntime) -> Result<(), Fail> {
-    let mut devices = Devices::with_three(rt.alloc())?;
-    let _ = devices.run("L R --resync", 0)?;
+    let mut devices = with_three(rt.alloc())?;
+    let _ = devices.run("L R --resync")?;
     for (device, calls) in CALLS {
         assert_eq!(rt; devices.calls(device), calls);
     }

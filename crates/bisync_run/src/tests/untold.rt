@@ -14,7 +14,8 @@ use bisync_tree::{Item, Limits, Side, Window};
 use std::alloc::Global;
 use std::test::Fail;
 
-/// A remote that tells nothing, lists one file at a text, and has no file.
+/// A remote that tells nothing. It lists a file of one byte and of one second at this text, opens
+/// whatever it is asked for, and always has more bytes.
 #[derive(Drop)]
 struct Untold {
     listed: &'static [u8],
@@ -54,7 +55,7 @@ impl Remote for Untold {
         let item = Item {
             path,
             size: 1,
-            time: 0,
+            time: 1_000_000_000,
         };
         match out.push(item) {
             Ok(()) => Ok(()),
@@ -63,12 +64,12 @@ impl Remote for Untold {
     }
 
     fn open(&mut self, _path: &Path) -> Result<bool, Failed> {
-        self.opened = false;
-        Ok(false)
+        self.opened = true;
+        Ok(true)
     }
 
-    fn read(&mut self, _buffer: &mut [u8]) -> Result<usize, Failed> {
-        Ok(0)
+    fn read(&mut self, buffer: &mut [u8]) -> Result<usize, Failed> {
+        Ok(buffer.len())
     }
 
     fn begin(&mut self) -> Result<(), Failed> {
@@ -94,21 +95,24 @@ impl Remote for Untold {
     }
 }
 
-fn is_bad_path(end: End, side: Side, text: &[u8]) -> bool {
-    match end {
-        End::BadPath(bad_side, bad) => bad_side == side && bad.as_bytes() == text,
-        _ => false,
-    }
-}
-
-/// A resync of devices with this remote as Path1.
-fn resync(alloc: Global, one: &mut Untold, devices: &mut Devices) -> Result<End, Fail> {
-    let opts = options(alloc, "L R --resync")?;
+/// A run of devices with such a remote as Path1.
+fn run_untold(
+    alloc: Global,
+    words: &str,
+    listed: &'static [u8],
+    devices: &mut Devices,
+) -> Result<End, Fail> {
+    let opts = options(alloc, words)?;
+    let mut one = Untold {
+        listed,
+        opened: false,
+        begun: false,
+    };
     Ok(run(
         alloc,
         &opts,
         &Limits::REAL,
-        one,
+        &mut one,
         &mut devices.two,
         &mut devices.work,
         &mut FixedClock::new(0),
@@ -116,17 +120,43 @@ fn resync(alloc: Global, one: &mut Untold, devices: &mut Devices) -> Result<End,
     ))
 }
 
+/// Whether a file at `f` of one byte changed, of which that many bytes were read.
+fn is_moved(end: &End, bytes: u64) -> bool {
+    match end {
+        End::Moved(Side::One, path, listed, Some(read)) => {
+            path.as_bytes() == b"f".as_slice() && listed.size == 1 && read.size == bytes
+        }
+        _ => false,
+    }
+}
+
+/// Whether a text that is no path was listed on Path1.
+fn is_bad_path(end: &End) -> bool {
+    match end {
+        End::BadPath(Side::One, text) => text.as_bytes() == b"a//b".as_slice(),
+        _ => false,
+    }
+}
+
 #[test]
 fn a_listed_text_that_is_no_path_is_told(rt: HostRuntime) -> Result<(), Fail> {
     let mut devices = Devices::new(rt.alloc());
-    let mut untold = Untold {
-        listed: b"a//b",
-        opened: false,
-        begun: false,
-    };
-    let end = resync(rt.alloc(), &mut untold, &mut devices)?;
-    assert!(rt; is_bad_path(end, Side::One, b"a//b"));
-    assert_eq!(rt; devices.calls(Device::Two), 0);
-    assert!(rt; devices.holds_only(&[]));
+    let end = run_untold(rt.alloc(), "L R --resync", b"a//b", &mut devices)?;
+    assert!(rt; is_bad_path(&end));
+    assert!(rt; devices.calls(Device::Two) == 0 && devices.has_names(""));
+    Ok(())
+}
+
+/// A new file of one byte has more bytes than the buffer of a copy.
+#[test]
+fn a_file_without_an_end_is_told_and_not_copied(rt: HostRuntime) -> Result<(), Fail> {
+    let mut devices = Devices::new(rt.alloc());
+    assert_eq!(rt; devices.play("both k=k@1\nrun 0 L R --resync")?, None);
+    let end = run_untold(rt.alloc(), "L R --force", b"f", &mut devices)?;
+    assert!(rt; is_moved(&end, 65_536) && devices.has(Side::Two, "")?);
+    assert_eq!(rt;
+        devices.play("ends bisync: path1: \"f\" changed during the run|")?,
+        None
+    );
     Ok(())
 }

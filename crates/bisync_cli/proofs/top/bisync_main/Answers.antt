@@ -1,6 +1,8 @@
+use Rattle.std.proofs.Common.{◌<◌, ◌^◌, arith}
+use Rattle.bisync_tree.specs.declared.options.TheConstants.Limits.{REAL}
 use Rattle.bisync_model.specs.Trees.{by_side}
 use Rattle.bisync_cli.specs.Tasks.{task_in}
-use Rattle.bisync_cli.proofs.Runs.{of_run, images_same, ends_run}
+use Rattle.bisync_cli.proofs.Runs.{of_run, images_same, run_images_same, kept_images_same, safe_same, ends_run}
 use Rattle.bisync_cli.proofs.top.bisync_main.Goals as goal
 
 pub returns-in-Err-OutOfMemory-clause-images : goal.returns-in-Err-OutOfMemory-clause-images
@@ -9,7 +11,7 @@ returns-in-Err-OutOfMemory-clause-images g c =
 
 pub returns-clause-end : goal.returns-clause-end
 returns-clause-end g c =
-    ends_run _ _ c.in-Ok-Run.opts _ _ c.run-end.result c.in-Ok-Run.ensures.read.ok c.in-Ok-Run.field-0-is c.in-Ok-Run.ensures.range c.run-end.ensures.built c.run-end.ensures.causes
+    ends_run _ _ c.in-Ok-Run.opts _ _ c.run-end.result c.in-Ok-Run.ensures.read.ok c.in-Ok-Run.field-0-is c.run-end.ensures.built c.run-end.ensures.causes
 
 pub returns-clause-answers : goal.returns-clause-answers
 returns-clause-answers g c = of_run _ _ _ _ c.in-Ok-Run.ensures.read.ok c.in-Ok-Run.field-0-is c.run-end.ensures.answers
@@ -67,3 +69,69 @@ returns-clause-causes g c = of_run _ _ _ _ c.in-Ok-Run.ensures.read.ok c.in-Ok-R
 
 pub returns-clause-report : goal.returns-clause-report
 returns-clause-report g c = of_run _ _ _ _ c.in-Ok-Run.ensures.read.ok c.in-Ok-Run.field-0-is c.run-end.ensures.report
+
+-- # An ordinary run
+
+pub returns-in-Err-OutOfMemory-clause-run_images : goal.returns-in-Err-OutOfMemory-clause-run_images
+returns-in-Err-OutOfMemory-clause-run_images g c =
+    run_images_same (task_in c.args.words.now) _ _ _ _ (g.W.Work.state c.args.work.now).folder (by_side (g.A.Remote.state c.args.one.now) (g.B.Remote.state c.args.two.now))
+
+pub returns-in-Err-OutOfMemory-clause-resilient_images : goal.returns-in-Err-OutOfMemory-clause-resilient_images
+returns-in-Err-OutOfMemory-clause-resilient_images g c =
+    kept_images_same (task_in c.args.words.now) _ _ _ _ (g.W.Work.state c.args.work.now).folder (by_side (g.A.Remote.state c.args.one.now) (g.B.Remote.state c.args.two.now))
+
+pub returns-in-Err-OutOfMemory-clause-safe : goal.returns-in-Err-OutOfMemory-clause-safe
+returns-in-Err-OutOfMemory-clause-safe g c =
+    let small : REAL.listing < 2 ^ 64 = omega arith in
+    safe_same (task_in c.args.words.now) _ _ _ REAL small (g.W.Work.state c.args.work.now).folder (by_side (g.A.Remote.state c.args.one.now) (g.B.Remote.state c.args.two.now))
+
+pub returns-clause-run_answers : goal.returns-clause-run_answers
+returns-clause-run_answers g c = of_run _ _ _ _ c.in-Ok-Run.ensures.read.ok c.in-Ok-Run.field-0-is c.run-end.ensures.run_answers
+
+pub returns-clause-unrefused : goal.returns-clause-unrefused
+returns-clause-unrefused g c = of_run _ _ _ _ c.in-Ok-Run.ensures.read.ok c.in-Ok-Run.field-0-is c.run-end.ensures.unrefused
+
+pub returns-clause-done : goal.returns-clause-done
+returns-clause-done g c = of_run _ _ _ _ c.in-Ok-Run.ensures.read.ok c.in-Ok-Run.field-0-is c.run-end.ensures.done
+
+pub returns-clause-run_numbers : goal.returns-clause-run_numbers
+returns-clause-run_numbers g c = of_run _ _ _ _ c.in-Ok-Run.ensures.read.ok c.in-Ok-Run.field-0-is c.run-end.ensures.run_numbers
+
+pub returns-clause-run_base : goal.returns-clause-run_base
+returns-clause-run_base g c = of_run _ _ _ _ c.in-Ok-Run.ensures.read.ok c.in-Ok-Run.field-0-is c.run-end.ensures.run_base
+
+pub returns-clause-resilient_base : goal.returns-clause-resilient_base
+returns-clause-resilient_base g c = of_run _ _ _ _ c.in-Ok-Run.ensures.read.ok c.in-Ok-Run.field-0-is c.run-end.ensures.resilient_base
+
+pub returns-clause-run_trees : goal.returns-clause-run_trees
+returns-clause-run_trees g c = of_run _ _ _ _ c.in-Ok-Run.ensures.read.ok c.in-Ok-Run.field-0-is c.run-end.ensures.run_trees
+
+pub returns-clause-run_rest : goal.returns-clause-run_rest
+returns-clause-run_rest g c = of_run _ _ _ _ c.in-Ok-Run.ensures.read.ok c.in-Ok-Run.field-0-is c.run-end.ensures.run_rest
+
+pub returns-clause-only_run : goal.returns-clause-only_run
+returns-clause-only_run g c = of_run _ _ _ _ c.in-Ok-Run.ensures.read.ok c.in-Ok-Run.field-0-is c.run-end.ensures.only_run
+
+pub returns-clause-run_images : goal.returns-clause-run_images
+returns-clause-run_images g c = of_run _ _ _ _ c.in-Ok-Run.ensures.read.ok c.in-Ok-Run.field-0-is c.run-end.ensures.run_images
+
+pub returns-clause-resilient_images : goal.returns-clause-resilient_images
+returns-clause-resilient_images g c = of_run _ _ _ _ c.in-Ok-Run.ensures.read.ok c.in-Ok-Run.field-0-is c.run-end.ensures.resilient_images
+
+pub returns-clause-safe : goal.returns-clause-safe
+returns-clause-safe g c = of_run _ _ _ _ c.in-Ok-Run.ensures.read.ok c.in-Ok-Run.field-0-is c.run-end.ensures.safe
+
+pub returns-clause-run_report : goal.returns-clause-run_report
+returns-clause-run_report g c = of_run _ _ _ _ c.in-Ok-Run.ensures.read.ok c.in-Ok-Run.field-0-is c.run-end.ensures.run_report
+
+pub returns-clause-only_one : goal.returns-clause-only_one
+returns-clause-only_one g c = of_run _ _ _ _ c.in-Ok-Run.ensures.read.ok c.in-Ok-Run.field-0-is c.run-end.ensures.only_one
+
+pub returns-clause-only_two : goal.returns-clause-only_two
+returns-clause-only_two g c = of_run _ _ _ _ c.in-Ok-Run.ensures.read.ok c.in-Ok-Run.field-0-is c.run-end.ensures.only_two
+
+pub returns-clause-only_base : goal.returns-clause-only_base
+returns-clause-only_base g c = of_run _ _ _ _ c.in-Ok-Run.ensures.read.ok c.in-Ok-Run.field-0-is c.run-end.ensures.only_base
+
+pub returns-clause-fell : goal.returns-clause-fell
+returns-clause-fell g c = of_run _ _ _ _ c.in-Ok-Run.ensures.read.ok c.in-Ok-Run.field-0-is c.run-end.ensures.fell

@@ -1,4 +1,5 @@
-use Rattle.bisync_run.proofs.CloseLaws.{closes}
+use Rattle.bisync_run.proofs.CloseLaws.{closes, fell_unlocked}
+use Rattle.bisync_run.proofs.ClosedKinds.{no_rise_first}
 use Rattle.bisync_run.proofs.closing.close.Goals as goal
 
 pub returns-in-Err-clause-closes : goal.returns-in-Err-clause-closes
@@ -9,3 +10,7 @@ returns-in-Ok-freed-clause-closes g c t = closes _ _ _ (c.fall_where.ensures.fal
 
 pub returns-in-Err-freed-clause-closes : goal.returns-in-Err-freed-clause-closes
 returns-in-Err-freed-clause-closes g c t = closes _ _ _ (c.fall_where.ensures.falls t) (c.free_lock-freed.ensures.others t)
+
+pub returns-in-Err-clause-fell : goal.returns-in-Err-clause-fell
+returns-in-Err-clause-fell g c t falls never =
+    fell_unlocked _ _ _ (c.fall_where.ensures.fell t falls (no_rise_first _ _ _ never c.free_lock-freed.ensures.cause.later)) (c.free_lock-freed.ensures.others t)

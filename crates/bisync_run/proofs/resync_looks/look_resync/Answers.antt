@@ -26,7 +26,7 @@ returns-in-Ok-made-clause-causes g c =
 pub returns-clause-causes : goal.returns-clause-causes
 returns-clause-causes g c =
     follows _ _ _ c.in-Ok.stamp _ (c.in-Ok.ensures.causes (g.A.Remote.state c.args.one.now).faults (g.B.Remote.state c.args.two.now).faults 0)
-    (follows _ _ _ c.in-Ok-look_at_both.seen _ (c.in-Ok-look_at_both.ensures.causes (g.W.Work.state c.new_stamp.new.work).faults 0) (not_planned _ c.in-Err-made.fault _ c.refused.ensures))
+    (follows _ _ _ c.in-Ok-look_at_both.seen _ (c.in-Ok-look_at_both.ensures.causes (g.W.Work.state c.new_stamp.new.work).faults 0) (not_planned _ c.in-Err-made.fault _ c.unplanned.ensures))
 
 pub returns-in-Ok-made-clause-plan : goal.returns-in-Ok-made-clause-plan
 returns-in-Ok-made-clause-plan g c a b =
@@ -52,7 +52,7 @@ returns-clause-refusal g c a b w =
     let s = sides_of c.args.opts.now.compare c.args.rules.now (g.A.Remote.state c.args.one.now) (g.B.Remote.state c.args.two.now) in
     no_plan_end c.args.mode c.args.limits.now (g.W.Work.state c.args.work.now).folder s c.in-Ok.stamp
     (listable _ _ _ _ _ _ _ seen.is_seen1.within seen.seen1 a) (listable _ _ _ _ _ _ _ seen.is_seen2.within seen.seen2 b) (c.in-Ok.ensures.new w)
-    c.in-Err-made.fault c.refused.result c.refused.ensures
+    c.in-Err-made.fault c.unplanned.result c.unplanned.ensures
     (fault_of_sides c.args.mode s c.run_compare-compare.result c.window.result c.window-2.result _ _
     c.run_compare-compare.ensures (c.window.ensures ∙ seen.one.window) (c.window-2.ensures ∙ seen.two.window) (seen.seen1 a).listing (seen.seen2 b).listing
     c.in-Ok.stamp c.args.limits.now.listing c.in-Err-made.fault (c.in-Err-made.ensures.fault passes (has_passing _ _ _ seen.is_seen1.passing) (has_passing _ _ _ seen.is_seen2.passing)))
@@ -63,7 +63,7 @@ returns-clause-grounds g c =
     let compare = c.run_compare-compare.result in
     let seen = c.in-Ok-look_at_both.ensures in
     no_plan_grounds (resync_known_of c.args.mode compare passes c.window.result c.window-2.result c.in-Ok-look_at_both.seen.one.listing c.in-Ok-look_at_both.seen.two.listing) (header_of c.in-Ok.stamp compare)
-    c.args.limits.now (by_side g.A.Remote.tells g.B.Remote.tells) c.in-Err-made.fault c.refused.result c.refused.ensures
+    c.args.limits.now (by_side g.A.Remote.tells g.B.Remote.tells) c.in-Err-made.fault c.unplanned.result c.unplanned.ensures
     (c.in-Err-made.ensures.fault passes (has_passing _ _ _ seen.is_seen1.passing) (has_passing _ _ _ seen.is_seen2.passing))
 
 pub returns-clause-kind : goal.returns-clause-kind
@@ -72,7 +72,7 @@ returns-clause-kind g c =
     let compare = c.run_compare-compare.result in
     let seen = c.in-Ok-look_at_both.ensures in
     no_plan_kind (resync_known_of c.args.mode compare passes c.window.result c.window-2.result c.in-Ok-look_at_both.seen.one.listing c.in-Ok-look_at_both.seen.two.listing) (header_of c.in-Ok.stamp compare)
-    c.args.limits.now.listing c.in-Err-made.fault c.refused.result c.refused.ensures
+    c.args.limits.now.listing c.in-Err-made.fault c.unplanned.result c.unplanned.ensures
     (c.in-Err-made.ensures.fault passes (has_passing _ _ _ seen.is_seen1.passing) (has_passing _ _ _ seen.is_seen2.passing))
 
 pub returns-in-Err-look_at_both-clause-told : goal.returns-in-Err-look_at_both-clause-told
@@ -82,4 +82,4 @@ returns-in-Err-look_at_both-clause-told g c =
 
 pub returns-clause-told : goal.returns-clause-told
 returns-clause-told g c =
-    unplanned_told (by_side g.A.Remote.tells g.B.Remote.tells) (by_side (g.A.Remote.state c.args.one.now) (g.B.Remote.state c.args.two.now)) c.in-Err-made.fault c.refused.result c.refused.ensures
+    unplanned_told (by_side g.A.Remote.tells g.B.Remote.tells) (by_side (g.A.Remote.state c.args.one.now) (g.B.Remote.state c.args.two.now)) c.in-Err-made.fault c.unplanned.result c.unplanned.ensures

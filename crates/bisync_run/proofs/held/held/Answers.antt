@@ -1,0 +1,40 @@
+use Rattle.std.proofs.Common.{◌∙◌, sym, subst, OnOk}
+use Rattle.bisync_tree.specs.declared.options.Prefer.{Prefer}
+use Rattle.bisync_model.specs.Trees.{by_side}
+use Rattle.bisync_run.specs.HeldResyncs.{TellsPlan}
+use Rattle.bisync_run.specs.Resyncs.{IsResynced, LeavesBase, LeavesTrees}
+use Rattle.bisync_run.specs.Sides.{sides_of}
+use Rattle.bisync_run.proofs.ToldEnds.{some_same}
+use Rattle.bisync_run.proofs.held.held.Goals as goal
+
+pub returns-in-Some-clause-base : goal.returns-in-Some-clause-base
+returns-in-Some-clause-base g c mode is one two work =
+    let a = g.A.Remote.state c.args.one.now in
+    let b = g.B.Remote.state c.args.two.now in
+    let now = by_side (g.A.Remote.state c.resync.new.one) (g.B.Remote.state c.resync.new.two) in
+    subst (λ (m : Prefer). LeavesBase m c.args.limits.now (g.W.Work.state c.args.work.now).folder (sides_of c.args.opts.now.compare c.args.entered.now.rules a b) (by_side a b) (g.W.Work.state c.resync.new.work).folder now)
+    (some_same c.in-Some.mode mode (sym c.in-Some.is ∙ is)) (c.resync.ensures.base one two work)
+
+pub returns-in-Some-clause-trees : goal.returns-in-Some-clause-trees
+returns-in-Some-clause-trees g c mode is one two work =
+    let a = g.A.Remote.state c.args.one.now in
+    let b = g.B.Remote.state c.args.two.now in
+    let now = by_side (g.A.Remote.state c.resync.new.one) (g.B.Remote.state c.resync.new.two) in
+    subst (λ (m : Prefer). LeavesTrees m c.args.limits.now (g.W.Work.state c.args.work.now).folder (sides_of c.args.opts.now.compare c.args.entered.now.rules a b) (by_side a b) now)
+    (some_same c.in-Some.mode mode (sym c.in-Some.is ∙ is)) (c.resync.ensures.trees one two work)
+
+pub returns-in-Some-clause-resynced : goal.returns-in-Some-clause-resynced
+returns-in-Some-clause-resynced g c mode is one two work dry =
+    let a = g.A.Remote.state c.args.one.now in
+    let b = g.B.Remote.state c.args.two.now in
+    let now = by_side (g.A.Remote.state c.resync.new.one) (g.B.Remote.state c.resync.new.two) in
+    subst (λ (m : Prefer). OnOk c.resync.result (IsResynced m c.args.limits.now (g.W.Work.state c.args.work.now).folder (sides_of c.args.opts.now.compare c.args.entered.now.rules a b) c.args.entered.now.digest (by_side a b) (g.W.Work.state c.resync.new.work).folder now))
+    (some_same c.in-Some.mode mode (sym c.in-Some.is ∙ is)) (c.resync.ensures.resynced one two work dry)
+
+pub returns-in-Some-clause-report : goal.returns-in-Some-clause-report
+returns-in-Some-clause-report g c mode is one two sink =
+    let a = g.A.Remote.state c.args.one.now in
+    let b = g.B.Remote.state c.args.two.now in
+    let now = by_side (g.A.Remote.state c.resync.new.one) (g.B.Remote.state c.resync.new.two) in
+    subst (λ (m : Prefer). TellsPlan m (sides_of c.args.opts.now.compare c.args.entered.now.rules a b) (by_side a b) now (g.S.Sink.state c.args.sink.now).bytes (g.S.Sink.state c.resync.new.sink).bytes c.resync.result)
+    (some_same c.in-Some.mode mode (sym c.in-Some.is ∙ is)) (c.resync.ensures.report one two sink)

@@ -1,0 +1,357 @@
+use Rattle.std.proofs.Common.{◌<◌, ◌^◌, ◌∙◌, refl, sym, subst, inl, inr, arith}
+use Rattle.bisync_device.specs.WorkFolder.{IsSettled}
+use Rattle.bisync_model.specs.Trees.{by_side}
+use Rattle.bisync_report.specs.declared.ends.End.TheVariants.{Done, DryRun, OutOfMemory}
+use Rattle.bisync_run.specs.Counts.{counts}
+use Rattle.bisync_run.specs.Sides.{compare_in}
+use Rattle.bisync_run.proofs.CauseLaws.{fails}
+use Rattle.bisync_run.proofs.EndCases.{step_may_change}
+use Rattle.bisync_run.proofs.HeldLaws.{untouched, same_windows, are_within}
+use Rattle.bisync_run.proofs.OrdinaryCauses.{done_same, lock_new_held, since, stopped, sunk, told_same, unsunk, well, work_same}
+use Rattle.bisync_run.proofs.OrdinaryEndCases.{compared_causes, compared_tells, device_answers, not_only, only_is, start_answers, step_kind}
+use Rattle.bisync_run.proofs.OrdinaryHeld.{base_held, done_held, finds_held, numbers_held, planned_finds, prepared_held, prepared_of, told_held, trees_held}
+use Rattle.bisync_run.proofs.ToldGrounds.{step_told}
+use Rattle.bisync_run.proofs.ordinary.ordinary.Goals as goal
+
+pub returns-in-Err-clause-answers : goal.returns-in-Err-clause-answers
+returns-in-Err-clause-answers g c one two work =
+    start_answers c.args.opts.now c.args.limits.now (g.W.Work.state c.args.work.now).folder _ c.args.entered.now.digest c.in-Err.end (c.in-Err.ensures.refusal work)
+
+pub returns-in-Err-clause-causes : goal.returns-in-Err-clause-causes
+returns-in-Err-clause-causes g c =
+    fails _ _ c.in-Err.end (c.in-Err.ensures.causes (g.A.Remote.state c.args.one.now).faults (g.B.Remote.state c.args.two.now).faults (g.S.Sink.state c.args.sink.now).faults)
+
+pub returns-then-is_only-clause-report : goal.returns-then-is_only-clause-report
+returns-then-is_only-clause-report g c one two work sink =
+    compared_tells (compare_in c.args.opts.now.compare (g.A.Remote.state c.args.one.now).window (g.B.Remote.state c.args.two.now).window) c.in-Ok.started.one c.in-Ok.started.two c.args.opts.now c.args.limits.now (g.W.Work.state c.args.work.now).folder _ c.args.entered.now.digest _ _
+    (only_is c.args.opts.now.check_sync (sym c.is_only.ensures ∙ c.if-is_only.true)) c.compare_base.result c.compare_base.ensures
+
+pub returns-then-is_only-clause-causes : goal.returns-then-is_only-clause-causes
+returns-then-is_only-clause-causes g c =
+    let a = (g.A.Remote.state c.args.one.now).faults in
+    let b = (g.B.Remote.state c.args.two.now).faults in
+    let w = (g.W.Work.state c.args.work.now).faults in
+    let s = (g.S.Sink.state c.args.sink.now).faults in
+    let w2 = (g.W.Work.state c.start.new.work).faults in
+    let started = (c.in-Ok.ensures.causes a b s).good refl in
+    since (counts a b w s) (counts a b w2 s) (counts a b w2 s) c.compare_base.result started (compared_causes (compare_in c.args.opts.now.compare (g.A.Remote.state c.args.one.now).window (g.B.Remote.state c.args.two.now).window) c.in-Ok.started.one c.in-Ok.started.two (counts a b w2 s) c.compare_base.result c.compare_base.ensures)
+
+pub returns-in-Err-look_ordinary-clause-causes : goal.returns-in-Err-look_ordinary-clause-causes
+returns-in-Err-look_ordinary-clause-causes g c =
+    let a = (g.A.Remote.state c.args.one.now).faults in
+    let b = (g.B.Remote.state c.args.two.now).faults in
+    let w = (g.W.Work.state c.args.work.now).faults in
+    let s = (g.S.Sink.state c.args.sink.now).faults in
+    let w2 = (g.W.Work.state c.start.new.work).faults in
+    let started = (c.in-Ok.ensures.causes a b s).good refl in
+    since (counts a b w s) (counts a b w2 s) _ _ started (fails _ _ c.in-Err-look_ordinary.end (c.in-Err-look_ordinary.ensures.causes w2 s))
+
+pub returns-in_default-clause-causes : goal.returns-in_default-clause-causes
+returns-in_default-clause-causes g c =
+    let a = (g.A.Remote.state c.args.one.now).faults in
+    let b = (g.B.Remote.state c.args.two.now).faults in
+    let w = (g.W.Work.state c.args.work.now).faults in
+    let s = (g.S.Sink.state c.args.sink.now).faults in
+    let a2 = (g.A.Remote.state c.look_ordinary.new.one).faults in
+    let b2 = (g.B.Remote.state c.look_ordinary.new.two).faults in
+    let w2 = (g.W.Work.state c.start.new.work).faults in
+    let started = (c.in-Ok.ensures.causes a b s).good refl in
+    let looked = (c.in-Ok-look_ordinary.ensures.causes w2 s).good refl in
+    since (counts a b w s) (counts a2 b2 w2 s) _ _ (looked ∙ started) (stopped (counts a2 b2 w2 s) OutOfMemory tt)
+
+pub returns-in-Err-plan_lines-clause-trees : goal.returns-in-Err-plan_lines-clause-trees
+returns-in-Err-plan_lines-clause-trees g c one two work =
+    inl (untouched (g.A.Remote.state c.args.one.now) (g.B.Remote.state c.args.two.now) (g.A.Remote.state c.look_ordinary.new.one) (g.B.Remote.state c.look_ordinary.new.two)
+    (c.in-Ok-look_ordinary.ensures.one.tree one) (c.in-Ok-look_ordinary.ensures.two.tree two))
+
+pub returns-in-Err-plan_lines-clause-answers : goal.returns-in-Err-plan_lines-clause-answers
+returns-in-Err-plan_lines-clause-answers g c one two work =
+    let f = (g.W.Work.state c.args.work.now).folder in
+    let more = not_only c.args.opts.now.check_sync (sym c.is_only.ensures ∙ c.if-is_only.false) in
+    let look = c.in-Ok-look_ordinary.ensures.look one two f c.args.entered.now.digest (c.in-Ok.ensures.starts work) more in
+    look.course
+
+pub returns-in-Err-plan_lines-clause-causes : goal.returns-in-Err-plan_lines-clause-causes
+returns-in-Err-plan_lines-clause-causes g c =
+    let a = (g.A.Remote.state c.args.one.now).faults in
+    let b = (g.B.Remote.state c.args.two.now).faults in
+    let w = (g.W.Work.state c.args.work.now).faults in
+    let s = (g.S.Sink.state c.args.sink.now).faults in
+    let a2 = (g.A.Remote.state c.look_ordinary.new.one).faults in
+    let b2 = (g.B.Remote.state c.look_ordinary.new.two).faults in
+    let w2 = (g.W.Work.state c.start.new.work).faults in
+    let started = (c.in-Ok.ensures.causes a b s).good refl in
+    let looked = (c.in-Ok-look_ordinary.ensures.causes w2 s).good refl in
+    since (counts a b w s) (counts a2 b2 w2 s) _ _ (looked ∙ started) (sunk a2 b2 w2 s (g.S.Sink.state c.plan_lines.new.sink).faults c.in-Err-plan_lines.ensures.cause)
+
+pub returns-then-opts-clause-answers : goal.returns-then-opts-clause-answers
+returns-then-opts-clause-answers g c one two work =
+    let f = (g.W.Work.state c.args.work.now).folder in
+    let more = not_only c.args.opts.now.check_sync (sym c.is_only.ensures ∙ c.if-is_only.false) in
+    let look = c.in-Ok-look_ordinary.ensures.look one two f c.args.entered.now.digest (c.in-Ok.ensures.starts work) more in
+    look.course
+
+pub returns-then-opts-clause-accepted : goal.returns-then-opts-clause-accepted
+returns-then-opts-clause-accepted g c one two work =
+    let f = (g.W.Work.state c.args.work.now).folder in
+    let more = not_only c.args.opts.now.check_sync (sym c.is_only.ensures ∙ c.if-is_only.false) in
+    let look = c.in-Ok-look_ordinary.ensures.look one two f c.args.entered.now.digest (c.in-Ok.ensures.starts work) more in
+    inl look.course
+
+pub returns-then-opts-clause-report : goal.returns-then-opts-clause-report
+returns-then-opts-clause-report g c one two work sink =
+    let a = g.A.Remote.state c.args.one.now in
+    let b = g.B.Remote.state c.args.two.now in
+    let f = (g.W.Work.state c.args.work.now).folder in
+    let more = not_only c.args.opts.now.check_sync (sym c.is_only.ensures ∙ c.if-is_only.false) in
+    let look = c.in-Ok-look_ordinary.ensures.look one two f c.args.entered.now.digest (c.in-Ok.ensures.starts work) more in
+    inr (told_held c.args.opts.now c.args.limits.now c.args.entered.now.rules c.args.entered.now.digest a b f c.in-Ok.started.stamp c.in-Ok.started.pair c.in-Ok-look_ordinary.look look (g.S.Sink.state c.args.sink.now).bytes (g.S.Sink.state c.plan_lines.new.sink).bytes (c.in-Ok-plan_lines.ensures.bytes sink))
+
+pub returns-then-opts-clause-causes : goal.returns-then-opts-clause-causes
+returns-then-opts-clause-causes g c =
+    let a = (g.A.Remote.state c.args.one.now).faults in
+    let b = (g.B.Remote.state c.args.two.now).faults in
+    let w = (g.W.Work.state c.args.work.now).faults in
+    let s = (g.S.Sink.state c.args.sink.now).faults in
+    let a2 = (g.A.Remote.state c.look_ordinary.new.one).faults in
+    let b2 = (g.B.Remote.state c.look_ordinary.new.two).faults in
+    let w2 = (g.W.Work.state c.start.new.work).faults in
+    let started = (c.in-Ok.ensures.causes a b s).good refl in
+    let looked = (c.in-Ok-look_ordinary.ensures.causes w2 s).good refl in
+    let s2 = (g.S.Sink.state c.plan_lines.new.sink).faults in
+    let told = told_same a b w s a2 b2 w2 s2 started looked (c.in-Ok-plan_lines.ensures.cause.kept refl) in
+    well _ _ DryRun told
+
+pub returns-in-Ok-carry_out_ordinary-clause-base : goal.returns-in-Ok-carry_out_ordinary-clause-base
+returns-in-Ok-carry_out_ordinary-clause-base g c one two work =
+    let a = g.A.Remote.state c.args.one.now in
+    let b = g.B.Remote.state c.args.two.now in
+    let a2 = g.A.Remote.state c.look_ordinary.new.one in
+    let b2 = g.B.Remote.state c.look_ordinary.new.two in
+    let looked = untouched a b a2 b2 (c.in-Ok-look_ordinary.ensures.one.tree one) (c.in-Ok-look_ordinary.ensures.two.tree two) in
+    let windows = same_windows a b a2 b2 c.in-Ok-look_ordinary.ensures.one.window c.in-Ok-look_ordinary.ensures.two.window in
+    let f = (g.W.Work.state c.args.work.now).folder in
+    let more = not_only c.args.opts.now.check_sync (sym c.is_only.ensures ∙ c.if-is_only.false) in
+    let look = c.in-Ok-look_ordinary.ensures.look one two f c.args.entered.now.digest (c.in-Ok.ensures.starts work) more in
+    let small : c.args.limits.now.listing < 2 ^ 64 = omega arith in
+    let fits = are_within c.args.limits.now (prepared_of c.in-Ok.started.stamp c.in-Ok-look_ordinary.look) c.in-Ok-look_ordinary.ensures.within1 c.in-Ok-look_ordinary.ensures.within2 in
+    let ready = prepared_held c.args.opts.now c.args.limits.now c.args.entered.now.rules c.args.entered.now.digest a b f c.in-Ok.started.stamp c.in-Ok.started.pair c.in-Ok-look_ordinary.look look a2 b2 looked windows (g.W.Work.state c.start.new.work).folder (c.in-Ok.ensures.folder work) small fits in
+    base_held c.args.opts.now c.args.limits.now c.args.entered.now.rules c.args.entered.now.digest a b f c.in-Ok.started.stamp c.in-Ok.started.pair c.in-Ok-look_ordinary.look look a2 b2 looked windows (g.W.Work.state c.start.new.work).folder (c.in-Ok.ensures.folder work) (g.W.Work.state c.carry_out_ordinary.new.work).folder
+    (by_side (g.A.Remote.state c.carry_out_ordinary.new.one) (g.B.Remote.state c.carry_out_ordinary.new.two)) c.if-opts.false
+    (c.in-Ok-carry_out_ordinary.ensures.base one two work c.args.limits.now.listing look.course.base ready)
+
+pub returns-in-Ok-carry_out_ordinary-clause-trees : goal.returns-in-Ok-carry_out_ordinary-clause-trees
+returns-in-Ok-carry_out_ordinary-clause-trees g c one two work =
+    let a = g.A.Remote.state c.args.one.now in
+    let b = g.B.Remote.state c.args.two.now in
+    let a2 = g.A.Remote.state c.look_ordinary.new.one in
+    let b2 = g.B.Remote.state c.look_ordinary.new.two in
+    let looked = untouched a b a2 b2 (c.in-Ok-look_ordinary.ensures.one.tree one) (c.in-Ok-look_ordinary.ensures.two.tree two) in
+    let windows = same_windows a b a2 b2 c.in-Ok-look_ordinary.ensures.one.window c.in-Ok-look_ordinary.ensures.two.window in
+    let f = (g.W.Work.state c.args.work.now).folder in
+    let more = not_only c.args.opts.now.check_sync (sym c.is_only.ensures ∙ c.if-is_only.false) in
+    let look = c.in-Ok-look_ordinary.ensures.look one two f c.args.entered.now.digest (c.in-Ok.ensures.starts work) more in
+    trees_held c.args.opts.now c.args.limits.now c.args.entered.now.rules c.args.entered.now.digest a b f c.in-Ok.started.stamp c.in-Ok.started.pair c.in-Ok-look_ordinary.look look a2 b2 looked windows c.if-opts.false
+    (by_side (g.A.Remote.state c.carry_out_ordinary.new.one) (g.B.Remote.state c.carry_out_ordinary.new.two)) (c.in-Ok-carry_out_ordinary.ensures.part one two)
+
+pub returns-in-Ok-carry_out_ordinary-clause-done : goal.returns-in-Ok-carry_out_ordinary-clause-done
+returns-in-Ok-carry_out_ordinary-clause-done g c one two work dry more =
+    let a = g.A.Remote.state c.args.one.now in
+    let b = g.B.Remote.state c.args.two.now in
+    let a2 = g.A.Remote.state c.look_ordinary.new.one in
+    let b2 = g.B.Remote.state c.look_ordinary.new.two in
+    let looked = untouched a b a2 b2 (c.in-Ok-look_ordinary.ensures.one.tree one) (c.in-Ok-look_ordinary.ensures.two.tree two) in
+    let windows = same_windows a b a2 b2 c.in-Ok-look_ordinary.ensures.one.window c.in-Ok-look_ordinary.ensures.two.window in
+    let f = (g.W.Work.state c.args.work.now).folder in
+    let look = c.in-Ok-look_ordinary.ensures.look one two f c.args.entered.now.digest (c.in-Ok.ensures.starts work) more in
+    let small : c.args.limits.now.listing < 2 ^ 64 = omega arith in
+    let fits = are_within c.args.limits.now (prepared_of c.in-Ok.started.stamp c.in-Ok-look_ordinary.look) c.in-Ok-look_ordinary.ensures.within1 c.in-Ok-look_ordinary.ensures.within2 in
+    let ready = prepared_held c.args.opts.now c.args.limits.now c.args.entered.now.rules c.args.entered.now.digest a b f c.in-Ok.started.stamp c.in-Ok.started.pair c.in-Ok-look_ordinary.look look a2 b2 looked windows (g.W.Work.state c.start.new.work).folder (c.in-Ok.ensures.folder work) small fits in
+    done_held c.args.opts.now c.args.limits.now c.args.entered.now.rules c.args.entered.now.digest a b f c.in-Ok.started.stamp c.in-Ok.started.pair c.in-Ok-look_ordinary.look look a2 b2 looked windows (g.W.Work.state c.start.new.work).folder (c.in-Ok.ensures.folder work) (g.W.Work.state c.carry_out_ordinary.new.work).folder
+    (by_side (g.A.Remote.state c.carry_out_ordinary.new.one) (g.B.Remote.state c.carry_out_ordinary.new.two))
+    (c.in-Ok-carry_out_ordinary.ensures.next_set work c.args.limits.now.listing look.course.base ready) (c.in-Ok-carry_out_ordinary.ensures.rest work) (c.in-Ok-carry_out_ordinary.ensures.done one two)
+
+pub returns-in-Ok-carry_out_ordinary-clause-good : goal.returns-in-Ok-carry_out_ordinary-clause-good
+returns-in-Ok-carry_out_ordinary-clause-good g c one two work =
+    let a = g.A.Remote.state c.args.one.now in
+    let b = g.B.Remote.state c.args.two.now in
+    let f = (g.W.Work.state c.args.work.now).folder in
+    let more = not_only c.args.opts.now.check_sync (sym c.is_only.ensures ∙ c.if-is_only.false) in
+    let look = c.in-Ok-look_ordinary.ensures.look one two f c.args.entered.now.digest (c.in-Ok.ensures.starts work) more in
+    numbers_held c.args.opts.now c.args.limits.now c.args.entered.now.rules c.args.entered.now.digest a b f c.in-Ok.started.stamp c.in-Ok.started.pair c.in-Ok-look_ordinary.look look c.if-opts.false more c.in-Ok-carry_out_ordinary.changes.one c.in-Ok-carry_out_ordinary.changes.two c.in-Ok-carry_out_ordinary.ensures.changes.0 c.in-Ok-carry_out_ordinary.ensures.changes.1
+
+pub returns-in-Ok-carry_out_ordinary-clause-answers : goal.returns-in-Ok-carry_out_ordinary-clause-answers
+returns-in-Ok-carry_out_ordinary-clause-answers g c one two work =
+    let f = (g.W.Work.state c.args.work.now).folder in
+    let more = not_only c.args.opts.now.check_sync (sym c.is_only.ensures ∙ c.if-is_only.false) in
+    let look = c.in-Ok-look_ordinary.ensures.look one two f c.args.entered.now.digest (c.in-Ok.ensures.starts work) more in
+    look.course
+
+pub returns-in-Ok-carry_out_ordinary-clause-accepted : goal.returns-in-Ok-carry_out_ordinary-clause-accepted
+returns-in-Ok-carry_out_ordinary-clause-accepted g c one two work =
+    let f = (g.W.Work.state c.args.work.now).folder in
+    let more = not_only c.args.opts.now.check_sync (sym c.is_only.ensures ∙ c.if-is_only.false) in
+    let look = c.in-Ok-look_ordinary.ensures.look one two f c.args.entered.now.digest (c.in-Ok.ensures.starts work) more in
+    inl look.course
+
+pub returns-in-Ok-carry_out_ordinary-clause-lock_new : goal.returns-in-Ok-carry_out_ordinary-clause-lock_new
+returns-in-Ok-carry_out_ordinary-clause-lock_new g c work never =
+    lock_new_held (g.W.Work.state c.args.work.now).folder (g.W.Work.state c.start.new.work).folder (g.W.Work.state c.carry_out_ordinary.new.work).folder (g.W.Work.state c.args.work.now).faults (g.W.Work.state c.start.new.work).faults (g.W.Work.state c.carry_out_ordinary.new.work).faults
+    (c.in-Ok.ensures.folder work) (work_same (g.W.Work.state c.args.work.now).faults (g.W.Work.state c.start.new.work).faults c.in-Ok.started c.in-Ok.ensures.causes) (c.in-Ok-carry_out_ordinary.ensures.lock_new work) never
+
+pub returns-in-Ok-carry_out_ordinary-clause-report : goal.returns-in-Ok-carry_out_ordinary-clause-report
+returns-in-Ok-carry_out_ordinary-clause-report g c one two work sink =
+    let a = g.A.Remote.state c.args.one.now in
+    let b = g.B.Remote.state c.args.two.now in
+    let f = (g.W.Work.state c.args.work.now).folder in
+    let more = not_only c.args.opts.now.check_sync (sym c.is_only.ensures ∙ c.if-is_only.false) in
+    let look = c.in-Ok-look_ordinary.ensures.look one two f c.args.entered.now.digest (c.in-Ok.ensures.starts work) more in
+    inr (told_held c.args.opts.now c.args.limits.now c.args.entered.now.rules c.args.entered.now.digest a b f c.in-Ok.started.stamp c.in-Ok.started.pair c.in-Ok-look_ordinary.look look (g.S.Sink.state c.args.sink.now).bytes (g.S.Sink.state c.plan_lines.new.sink).bytes (c.in-Ok-plan_lines.ensures.bytes sink))
+
+pub returns-in-Ok-carry_out_ordinary-clause-causes : goal.returns-in-Ok-carry_out_ordinary-clause-causes
+returns-in-Ok-carry_out_ordinary-clause-causes g c =
+    let a = (g.A.Remote.state c.args.one.now).faults in
+    let b = (g.B.Remote.state c.args.two.now).faults in
+    let w = (g.W.Work.state c.args.work.now).faults in
+    let s = (g.S.Sink.state c.args.sink.now).faults in
+    let a2 = (g.A.Remote.state c.look_ordinary.new.one).faults in
+    let b2 = (g.B.Remote.state c.look_ordinary.new.two).faults in
+    let w2 = (g.W.Work.state c.start.new.work).faults in
+    let started = (c.in-Ok.ensures.causes a b s).good refl in
+    let looked = (c.in-Ok-look_ordinary.ensures.causes w2 s).good refl in
+    let s2 = (g.S.Sink.state c.plan_lines.new.sink).faults in
+    let told = told_same a b w s a2 b2 w2 s2 started looked (c.in-Ok-plan_lines.ensures.cause.kept refl) in
+    let a3 = (g.A.Remote.state c.carry_out_ordinary.new.one).faults in
+    let b3 = (g.B.Remote.state c.carry_out_ordinary.new.two).faults in
+    let w3 = (g.W.Work.state c.carry_out_ordinary.new.work).faults in
+    well _ _ (Done c.in-Ok-carry_out_ordinary.changes.one c.in-Ok-carry_out_ordinary.changes.two) (done_same a2 b2 w2 a3 b3 w3 s2 c.in-Ok-carry_out_ordinary.changes c.in-Ok-carry_out_ordinary.ensures.causes ∙ told)
+
+pub returns-clause-base : goal.returns-clause-base
+returns-clause-base g c one two work =
+    let a = g.A.Remote.state c.args.one.now in
+    let b = g.B.Remote.state c.args.two.now in
+    let a2 = g.A.Remote.state c.look_ordinary.new.one in
+    let b2 = g.B.Remote.state c.look_ordinary.new.two in
+    let looked = untouched a b a2 b2 (c.in-Ok-look_ordinary.ensures.one.tree one) (c.in-Ok-look_ordinary.ensures.two.tree two) in
+    let windows = same_windows a b a2 b2 c.in-Ok-look_ordinary.ensures.one.window c.in-Ok-look_ordinary.ensures.two.window in
+    let f = (g.W.Work.state c.args.work.now).folder in
+    let more = not_only c.args.opts.now.check_sync (sym c.is_only.ensures ∙ c.if-is_only.false) in
+    let look = c.in-Ok-look_ordinary.ensures.look one two f c.args.entered.now.digest (c.in-Ok.ensures.starts work) more in
+    let small : c.args.limits.now.listing < 2 ^ 64 = omega arith in
+    let fits = are_within c.args.limits.now (prepared_of c.in-Ok.started.stamp c.in-Ok-look_ordinary.look) c.in-Ok-look_ordinary.ensures.within1 c.in-Ok-look_ordinary.ensures.within2 in
+    let ready = prepared_held c.args.opts.now c.args.limits.now c.args.entered.now.rules c.args.entered.now.digest a b f c.in-Ok.started.stamp c.in-Ok.started.pair c.in-Ok-look_ordinary.look look a2 b2 looked windows (g.W.Work.state c.start.new.work).folder (c.in-Ok.ensures.folder work) small fits in
+    base_held c.args.opts.now c.args.limits.now c.args.entered.now.rules c.args.entered.now.digest a b f c.in-Ok.started.stamp c.in-Ok.started.pair c.in-Ok-look_ordinary.look look a2 b2 looked windows (g.W.Work.state c.start.new.work).folder (c.in-Ok.ensures.folder work) (g.W.Work.state c.carry_out_ordinary.new.work).folder
+    (by_side (g.A.Remote.state c.carry_out_ordinary.new.one) (g.B.Remote.state c.carry_out_ordinary.new.two)) c.if-opts.false
+    (c.in-Err-carry_out_ordinary.ensures.base one two work c.args.limits.now.listing look.course.base ready)
+
+pub returns-clause-trees : goal.returns-clause-trees
+returns-clause-trees g c one two work =
+    let a = g.A.Remote.state c.args.one.now in
+    let b = g.B.Remote.state c.args.two.now in
+    let a2 = g.A.Remote.state c.look_ordinary.new.one in
+    let b2 = g.B.Remote.state c.look_ordinary.new.two in
+    let looked = untouched a b a2 b2 (c.in-Ok-look_ordinary.ensures.one.tree one) (c.in-Ok-look_ordinary.ensures.two.tree two) in
+    let windows = same_windows a b a2 b2 c.in-Ok-look_ordinary.ensures.one.window c.in-Ok-look_ordinary.ensures.two.window in
+    let f = (g.W.Work.state c.args.work.now).folder in
+    let more = not_only c.args.opts.now.check_sync (sym c.is_only.ensures ∙ c.if-is_only.false) in
+    let look = c.in-Ok-look_ordinary.ensures.look one two f c.args.entered.now.digest (c.in-Ok.ensures.starts work) more in
+    trees_held c.args.opts.now c.args.limits.now c.args.entered.now.rules c.args.entered.now.digest a b f c.in-Ok.started.stamp c.in-Ok.started.pair c.in-Ok-look_ordinary.look look a2 b2 looked windows c.if-opts.false
+    (by_side (g.A.Remote.state c.carry_out_ordinary.new.one) (g.B.Remote.state c.carry_out_ordinary.new.two)) (c.in-Err-carry_out_ordinary.ensures.part one two)
+
+pub returns-clause-answers : goal.returns-clause-answers
+returns-clause-answers g c one two work =
+    let a = g.A.Remote.state c.args.one.now in
+    let b = g.B.Remote.state c.args.two.now in
+    let a2 = g.A.Remote.state c.look_ordinary.new.one in
+    let b2 = g.B.Remote.state c.look_ordinary.new.two in
+    let looked = untouched a b a2 b2 (c.in-Ok-look_ordinary.ensures.one.tree one) (c.in-Ok-look_ordinary.ensures.two.tree two) in
+    let windows = same_windows a b a2 b2 c.in-Ok-look_ordinary.ensures.one.window c.in-Ok-look_ordinary.ensures.two.window in
+    let f = (g.W.Work.state c.args.work.now).folder in
+    let more = not_only c.args.opts.now.check_sync (sym c.is_only.ensures ∙ c.if-is_only.false) in
+    let look = c.in-Ok-look_ordinary.ensures.look one two f c.args.entered.now.digest (c.in-Ok.ensures.starts work) more in
+    device_answers c.args.opts.now c.args.limits.now f _ c.args.entered.now.digest c.in-Err-carry_out_ordinary.end
+    (c.in-Err-carry_out_ordinary.ensures.found one two (finds_held c.args.opts.now c.args.limits.now c.args.entered.now.rules c.args.entered.now.digest a b f c.in-Ok.started.stamp c.in-Ok.started.pair c.in-Ok-look_ordinary.look look a2 b2 looked windows))
+
+pub returns-clause-lock_new : goal.returns-clause-lock_new
+returns-clause-lock_new g c work never =
+    lock_new_held (g.W.Work.state c.args.work.now).folder (g.W.Work.state c.start.new.work).folder (g.W.Work.state c.carry_out_ordinary.new.work).folder (g.W.Work.state c.args.work.now).faults (g.W.Work.state c.start.new.work).faults (g.W.Work.state c.carry_out_ordinary.new.work).faults
+    (c.in-Ok.ensures.folder work) (work_same (g.W.Work.state c.args.work.now).faults (g.W.Work.state c.start.new.work).faults c.in-Ok.started c.in-Ok.ensures.causes) (c.in-Err-carry_out_ordinary.ensures.lock_new work) never
+
+pub returns-clause-report : goal.returns-clause-report
+returns-clause-report g c one two work sink =
+    let a = g.A.Remote.state c.args.one.now in
+    let b = g.B.Remote.state c.args.two.now in
+    let f = (g.W.Work.state c.args.work.now).folder in
+    let more = not_only c.args.opts.now.check_sync (sym c.is_only.ensures ∙ c.if-is_only.false) in
+    let look = c.in-Ok-look_ordinary.ensures.look one two f c.args.entered.now.digest (c.in-Ok.ensures.starts work) more in
+    inr (inr (step_may_change c.in-Err-carry_out_ordinary.end c.in-Err-carry_out_ordinary.ensures.end, told_held c.args.opts.now c.args.limits.now c.args.entered.now.rules c.args.entered.now.digest a b f c.in-Ok.started.stamp c.in-Ok.started.pair c.in-Ok-look_ordinary.look look (g.S.Sink.state c.args.sink.now).bytes (g.S.Sink.state c.plan_lines.new.sink).bytes (c.in-Ok-plan_lines.ensures.bytes sink)))
+
+pub returns-clause-told : goal.returns-clause-told
+returns-clause-told g c =
+    let a = g.A.Remote.state c.args.one.now in
+    let b = g.B.Remote.state c.args.two.now in
+    let a2 = g.A.Remote.state c.look_ordinary.new.one in
+    let b2 = g.B.Remote.state c.look_ordinary.new.two in
+    let windows = same_windows a b a2 b2 c.in-Ok-look_ordinary.ensures.one.window c.in-Ok-look_ordinary.ensures.two.window in
+    step_told (by_side g.A.Remote.tells g.B.Remote.tells) (by_side a b) c.in-Err-carry_out_ordinary.end c.in-Err-carry_out_ordinary.ensures.end c.in-Err-carry_out_ordinary.ensures.read
+    (λ one two. c.in-Err-carry_out_ordinary.ensures.found one two
+    (planned_finds c.args.opts.now c.args.entered.now.rules a b a2 b2 c.in-Ok.started c.in-Ok-look_ordinary.look
+    (untouched a b a2 b2 (c.in-Ok-look_ordinary.ensures.one.tree one) (c.in-Ok-look_ordinary.ensures.two.tree two)) windows (c.in-Ok-look_ordinary.ensures.planned one two)))
+
+pub returns-clause-causes : goal.returns-clause-causes
+returns-clause-causes g c =
+    let a = (g.A.Remote.state c.args.one.now).faults in
+    let b = (g.B.Remote.state c.args.two.now).faults in
+    let w = (g.W.Work.state c.args.work.now).faults in
+    let s = (g.S.Sink.state c.args.sink.now).faults in
+    let a2 = (g.A.Remote.state c.look_ordinary.new.one).faults in
+    let b2 = (g.B.Remote.state c.look_ordinary.new.two).faults in
+    let w2 = (g.W.Work.state c.start.new.work).faults in
+    let started = (c.in-Ok.ensures.causes a b s).good refl in
+    let looked = (c.in-Ok-look_ordinary.ensures.causes w2 s).good refl in
+    let s2 = (g.S.Sink.state c.plan_lines.new.sink).faults in
+    let told = told_same a b w s a2 b2 w2 s2 started looked (c.in-Ok-plan_lines.ensures.cause.kept refl) in
+    let a3 = (g.A.Remote.state c.carry_out_ordinary.new.one).faults in
+    let b3 = (g.B.Remote.state c.carry_out_ordinary.new.two).faults in
+    let w3 = (g.W.Work.state c.carry_out_ordinary.new.work).faults in
+    since (counts a b w s) (counts a2 b2 w2 s2) _ _ told (unsunk a2 b2 w2 a3 b3 w3 s2 c.in-Err-carry_out_ordinary.end c.in-Err-carry_out_ordinary.ensures.end c.in-Err-carry_out_ordinary.ensures.causes)
+
+pub returns-in_default-clause-trees : goal.returns-in_default-clause-trees
+returns-in_default-clause-trees g c one two work =
+    let a = g.A.Remote.state c.args.one.now in
+    let b = g.B.Remote.state c.args.two.now in
+    let a2 = g.A.Remote.state c.look_ordinary.new.one in
+    let b2 = g.B.Remote.state c.look_ordinary.new.two in
+    let looked = untouched a b a2 b2 (c.in-Ok-look_ordinary.ensures.one.tree one) (c.in-Ok-look_ordinary.ensures.two.tree two) in
+    inl looked
+
+pub returns-in_default-clause-report : goal.returns-in_default-clause-report
+returns-in_default-clause-report g c one two work sink =
+    let a = g.A.Remote.state c.args.one.now in
+    let b = g.B.Remote.state c.args.two.now in
+    let a2 = g.A.Remote.state c.look_ordinary.new.one in
+    let b2 = g.B.Remote.state c.look_ordinary.new.two in
+    let looked = untouched a b a2 b2 (c.in-Ok-look_ordinary.ensures.one.tree one) (c.in-Ok-look_ordinary.ensures.two.tree two) in
+    inr (inl (refl, looked))
+
+pub returns-then-opts-clause-trees : goal.returns-then-opts-clause-trees
+returns-then-opts-clause-trees g c one two work =
+    let a = g.A.Remote.state c.args.one.now in
+    let b = g.B.Remote.state c.args.two.now in
+    let a2 = g.A.Remote.state c.look_ordinary.new.one in
+    let b2 = g.B.Remote.state c.look_ordinary.new.two in
+    let looked = untouched a b a2 b2 (c.in-Ok-look_ordinary.ensures.one.tree one) (c.in-Ok-look_ordinary.ensures.two.tree two) in
+    inl looked
+
+pub returns-in-Ok-carry_out_ordinary-clause-settled : goal.returns-in-Ok-carry_out_ordinary-clause-settled
+returns-in-Ok-carry_out_ordinary-clause-settled g c work settled =
+    c.in-Ok-carry_out_ordinary.ensures.settled work (subst IsSettled (sym (c.in-Ok.ensures.folder work)) settled)
+
+pub returns-clause-settled : goal.returns-clause-settled
+returns-clause-settled g c work settled =
+    c.in-Err-carry_out_ordinary.ensures.settled work (subst IsSettled (sym (c.in-Ok.ensures.folder work)) settled)
+
+pub returns-clause-kind : goal.returns-clause-kind
+returns-clause-kind g c =
+    step_kind c.args.opts.now (compare_in c.args.opts.now.compare (g.A.Remote.state c.args.one.now).window (g.B.Remote.state c.args.two.now).window)
+    (not_only c.args.opts.now.check_sync (sym c.is_only.ensures ∙ c.if-is_only.false)) c.in-Err-carry_out_ordinary.end c.in-Err-carry_out_ordinary.ensures.end

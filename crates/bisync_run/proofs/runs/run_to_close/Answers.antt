@@ -1,0 +1,424 @@
+use Rattle.std.proofs.Common.{[], ap, inl, inr, subst, sym, ⊎_elim}
+use Rattle.std.proofs.lemmas.List.{append-nil}
+use Rattle.bisync_device.specs.WorkFolder.{WorkFolder}
+use Rattle.bisync_model.specs.Trees.{by_side}
+use Rattle.bisync_report.specs.declared.ends.End.{End}
+use Rattle.bisync_run.specs.Counts.{counts, Stops}
+use Rattle.bisync_run.specs.HeldResyncs.{IsGoodEndOf}
+use Rattle.bisync_run.specs.Ordinary.{IsGoodOrdinaryEnd}
+use Rattle.bisync_run.specs.ResyncRuns.{Matter}
+use Rattle.bisync_run.specs.Sides.{sides_of}
+use Rattle.bisync_run.proofs.AnswersBefore.{none_before, answers_before}
+use Rattle.bisync_run.proofs.Closed.{base_closed, base_unlocked, done_closed, done_unlocked}
+use Rattle.bisync_run.proofs.ClosedEnds.{on_ok, falls_ok, falls_dry, changes_closed, early_closed, answers_closed, numbers_closed, tells_closed}
+use Rattle.bisync_run.proofs.ClosedKinds.{no_rise_last, no_rise_mid, falls_closed, fell_closed, quiet_closed, own_closed, locked_closed, freed_was_good, fallen_same, fallen_closed, lock_new_closed, no_digest_closed, aside_closed}
+use Rattle.bisync_run.proofs.CoursesBefore.{run_answers_before, unrefused_before}
+use Rattle.bisync_run.proofs.DoneSteps.{untouched_same}
+use Rattle.bisync_run.proofs.EndCases.{good_is_after_good}
+use Rattle.bisync_run.proofs.EndKindLaws.{unlocked_is_own, unlocked_not_after_good, unlocked_fell, freed_is_after_good}
+use Rattle.bisync_run.proofs.LockNewLaws.{lock_new_twice, lock_new_same}
+use Rattle.bisync_run.proofs.LockedFolders.{base_past}
+use Rattle.bisync_run.proofs.OrdinaryClosed.{base_kept, falls_resilient, rest_closed, rest_locked, run_base_closed, run_done_closed, way_before}
+use Rattle.bisync_run.proofs.OrdinaryEndsClosed.{good_before, ordinary_closed, run_answers_closed, run_tells_closed, tells_unlocked, unlocked_is_ordinary}
+use Rattle.bisync_run.proofs.RunEnds.{after_good_was_ok}
+use Rattle.bisync_run.proofs.ToldGrounds.{unlocked_told, closed_told}
+use Rattle.bisync_work.proofs.LockLaws.{free_or_blocking}
+use Rattle.bisync_run.proofs.CloseLaws.{fell_before}
+use Rattle.bisync_run.proofs.BuiltEnds.{unlocked_built, closed_built}
+use Rattle.bisync_run.proofs.runs.run_to_close.Goals as goal
+
+pub returns-in-Err-clause-base : goal.returns-in-Err-clause-base
+returns-in-Err-clause-base g c mode mode_is one two work base is =
+    inl (
+      base_past (g.W.Work.state c.args.work.now).folder (g.W.Work.state c.enter.new.work).folder (c.in-Err.ensures.others work) c.args.limits.now.listing base is,
+      untouched_same (by_side (g.A.Remote.state c.args.one.now) (g.B.Remote.state c.args.two.now)),
+    )
+
+pub returns-in-Err-clause-answers : goal.returns-in-Err-clause-answers
+returns-in-Err-clause-answers g c mode mode_is one two work = inl (c.in-Err.ensures.entry work)
+
+pub returns-in-Err-clause-accepted : goal.returns-in-Err-clause-accepted
+returns-in-Err-clause-accepted g c mode mode_is one two work good = absurd (unlocked_not_after_good c.args.opts.now.filters c.in-Err.end c.in-Err.ensures.kind good)
+
+pub returns-in-Err-clause-set_aside : goal.returns-in-Err-clause-set_aside
+returns-in-Err-clause-set_aside g c mode mode_is work dry good = absurd (unlocked_not_after_good c.args.opts.now.filters c.in-Err.end c.in-Err.ensures.kind good)
+
+pub returns-in-Err-clause-only : goal.returns-in-Err-clause-only
+returns-in-Err-clause-only g c mode mode_is = unlocked_is_own c.args.opts.now c.in-Err.end c.in-Err.ensures.kind
+
+pub returns-in-Err-clause-only_fallen : goal.returns-in-Err-clause-only_fallen
+returns-in-Err-clause-only_fallen g c work early =
+    fallen_same (g.W.Work.state c.args.work.now).folder (g.W.Work.state c.enter.new.work).folder (c.in-Err.ensures.others work)
+
+pub returns-in-Err-clause-fallen : goal.returns-in-Err-clause-fallen
+returns-in-Err-clause-fallen g c work fell never =
+    absurd (never (unlocked_fell c.args.opts.now.filters (counts 0 0 (g.W.Work.state c.args.work.now).faults 0) (counts 0 0 (g.W.Work.state c.enter.new.work).faults 0)
+    c.args.opts.now.resilient c.args.opts.now.dry_run c.in-Err.end c.in-Err.ensures.kind c.in-Err.ensures.causes.fault fell))
+
+pub returns-in-Err-clause-freed : goal.returns-in-Err-clause-freed
+returns-in-Err-clause-freed g c work freed =
+    absurd (unlocked_not_after_good c.args.opts.now.filters c.in-Err.end c.in-Err.ensures.kind (freed_is_after_good c.in-Err.end freed))
+
+pub returns-in-Err-clause-lock_new : goal.returns-in-Err-clause-lock_new
+returns-in-Err-clause-lock_new g c work never =
+    lock_new_same (g.W.Work.state c.args.work.now).folder (g.W.Work.state c.enter.new.work).folder
+    (ap (λ (w : WorkFolder). w.lock_new) (c.in-Err.ensures.kept work (λ is. never
+    (subst (λ (e : End). Stops (counts 0 0 (g.W.Work.state c.args.work.now).faults 0) (counts 0 0 (g.W.Work.state c.enter.new.work).faults 0) e) is c.in-Err.ensures.causes.fault))))
+
+pub returns-in-Err-clause-no_digest : goal.returns-in-Err-clause-no_digest
+returns-in-Err-clause-no_digest g c work none = ap (λ (w : WorkFolder). w.filters_md5) (c.in-Err.ensures.others work).rest
+
+pub returns-in-Err-clause-entry : goal.returns-in-Err-clause-entry
+returns-in-Err-clause-entry g c work un = c.in-Err.ensures.entry work
+
+pub returns-in-Err-clause-told : goal.returns-in-Err-clause-told
+returns-in-Err-clause-told g c = unlocked_told (by_side g.A.Remote.tells g.B.Remote.tells) (by_side (g.A.Remote.state c.args.one.now) (g.B.Remote.state c.args.two.now)) c.args.opts.now.filters c.in-Err.end c.in-Err.ensures.kind
+
+pub returns-in-Err-clause-lines : goal.returns-in-Err-clause-lines
+returns-in-Err-clause-lines g c sink = ([], sym (append-nil (g.S.Sink.state c.args.sink.now).bytes))
+
+pub returns-clause-answers : goal.returns-clause-answers
+returns-clause-answers g c mode mode_is one two work =
+    let a = g.A.Remote.state c.args.one.now in
+    let b = g.B.Remote.state c.args.two.now in
+    let s = sides_of c.args.opts.now.compare c.in-Ok.entered.rules a b in
+    let f = (g.W.Work.state c.args.work.now).folder in
+    let f2 = (g.W.Work.state c.enter.new.work).folder in
+    let changes = c.in-Ok.ensures.others work in
+    let m : Matter c.args.opts.now f (by_side a b) = record { rules = c.in-Ok.entered.rules; digest = c.in-Ok.entered.digest; are = c.in-Ok.ensures.rules work } in
+    inr (
+      λ clock. c.in-Ok.ensures.free work clock,
+      (
+        m,
+        answers_before mode c.args.limits.now f f2 changes s c.close.result
+            (answers_closed mode c.args.limits.now f2 s c.args.opts.now.dry_run c.held-ended.result c.close.result c.close.ensures.end
+            (c.held-ended.ensures.answers mode mode_is one two work) (c.held-ended.ensures.accepted mode mode_is one two work) (c.held-ended.ensures.good mode mode_is one two)),
+      ),
+    )
+
+pub returns-clause-accepted : goal.returns-clause-accepted
+returns-clause-accepted g c mode mode_is one two work good =
+    let a = g.A.Remote.state c.args.one.now in
+    let b = g.B.Remote.state c.args.two.now in
+    let s = sides_of c.args.opts.now.compare c.in-Ok.entered.rules a b in
+    let f = (g.W.Work.state c.args.work.now).folder in
+    let f2 = (g.W.Work.state c.enter.new.work).folder in
+    let changes = c.in-Ok.ensures.others work in
+    let m : Matter c.args.opts.now f (by_side a b) = record { rules = c.in-Ok.entered.rules; digest = c.in-Ok.entered.digest; are = c.in-Ok.ensures.rules work } in
+    let ok = after_good_was_ok _ _ c.held-ended.result c.close.result c.held-ended.ensures.causes.fault c.close.ensures.end good in
+    (λ clock. c.in-Ok.ensures.free work clock, (m, none_before mode c.args.limits.now f f2 changes s (on_ok c.held-ended.result ok (c.held-ended.ensures.accepted mode mode_is one two work))))
+
+pub returns-clause-resynced : goal.returns-clause-resynced
+returns-clause-resynced g c mode mode_is one two work dry good =
+    let a = g.A.Remote.state c.args.one.now in
+    let b = g.B.Remote.state c.args.two.now in
+    let s = sides_of c.args.opts.now.compare c.in-Ok.entered.rules a b in
+    let f = (g.W.Work.state c.args.work.now).folder in
+    let f2 = (g.W.Work.state c.enter.new.work).folder in
+    let changes = c.in-Ok.ensures.others work in
+    let m : Matter c.args.opts.now f (by_side a b) = record { rules = c.in-Ok.entered.rules; digest = c.in-Ok.entered.digest; are = c.in-Ok.ensures.rules work } in
+    let mid = (g.W.Work.state c.held-ended.new.work).folder in
+    let h = (g.W.Work.state c.close.new.work).folder in
+    let now = by_side (g.A.Remote.state c.held-ended.new.one) (g.B.Remote.state c.held-ended.new.two) in
+    let ok = after_good_was_ok _ _ c.held-ended.result c.close.result c.held-ended.ensures.causes.fault c.close.ensures.end good in (
+      m,
+      done_unlocked mode c.args.limits.now s (by_side a b) now c.in-Ok.entered.digest f f2 h changes
+          (done_closed mode c.args.limits.now s (by_side a b) now c.in-Ok.entered.digest f2 mid h
+          (on_ok c.held-ended.result ok (c.held-ended.ensures.resynced mode mode_is one two work dry))
+          (c.close.ensures.kept work (falls_ok c.args.opts.now.resilient c.args.opts.now.dry_run c.held-ended.result ok))),
+    )
+
+pub returns-clause-numbers : goal.returns-clause-numbers
+returns-clause-numbers g c mode mode_is one two work good =
+    let a = g.A.Remote.state c.args.one.now in
+    let b = g.B.Remote.state c.args.two.now in
+    let s = sides_of c.args.opts.now.compare c.in-Ok.entered.rules a b in
+    let f = (g.W.Work.state c.args.work.now).folder in
+    let f2 = (g.W.Work.state c.enter.new.work).folder in
+    let changes = c.in-Ok.ensures.others work in
+    let m : Matter c.args.opts.now f (by_side a b) = record { rules = c.in-Ok.entered.rules; digest = c.in-Ok.entered.digest; are = c.in-Ok.ensures.rules work } in
+    (m, numbers_closed (IsGoodEndOf c.args.opts.now.dry_run mode s) _ _ c.held-ended.result c.close.result c.held-ended.ensures.causes.fault c.close.ensures.end (c.held-ended.ensures.good mode mode_is one two) good)
+
+pub returns-clause-base : goal.returns-clause-base
+returns-clause-base g c mode mode_is one two work base is =
+    let a = g.A.Remote.state c.args.one.now in
+    let b = g.B.Remote.state c.args.two.now in
+    let s = sides_of c.args.opts.now.compare c.in-Ok.entered.rules a b in
+    let f = (g.W.Work.state c.args.work.now).folder in
+    let f2 = (g.W.Work.state c.enter.new.work).folder in
+    let changes = c.in-Ok.ensures.others work in
+    let m : Matter c.args.opts.now f (by_side a b) = record { rules = c.in-Ok.entered.rules; digest = c.in-Ok.entered.digest; are = c.in-Ok.ensures.rules work } in
+    let mid = (g.W.Work.state c.held-ended.new.work).folder in
+    let h = (g.W.Work.state c.close.new.work).folder in
+    let now = by_side (g.A.Remote.state c.held-ended.new.one) (g.B.Remote.state c.held-ended.new.two) in
+    ⊎_elim inl (λ other. inr (⊎_elim inl (λ made. inr (m, made)) other))
+    (base_unlocked mode c.args.limits.now s (by_side a b) now f f2 h changes
+    (base_closed mode c.args.limits.now s (by_side a b) now f2 mid h (c.held-ended.ensures.base mode mode_is one two work) (c.close.ensures.closes work)) base is)
+
+pub returns-clause-trees : goal.returns-clause-trees
+returns-clause-trees g c mode mode_is one two work =
+    let a = g.A.Remote.state c.args.one.now in
+    let b = g.B.Remote.state c.args.two.now in
+    let s = sides_of c.args.opts.now.compare c.in-Ok.entered.rules a b in
+    let f = (g.W.Work.state c.args.work.now).folder in
+    let f2 = (g.W.Work.state c.enter.new.work).folder in
+    let changes = c.in-Ok.ensures.others work in
+    let m : Matter c.args.opts.now f (by_side a b) = record { rules = c.in-Ok.entered.rules; digest = c.in-Ok.entered.digest; are = c.in-Ok.ensures.rules work } in
+    ⊎_elim inl (λ some. inr (λ clock. c.in-Ok.ensures.free work clock, (m, inr (none_before mode c.args.limits.now f f2 changes s some.0, some.1))))
+    (c.held-ended.ensures.trees mode mode_is one two work)
+
+pub returns-clause-untouched_one : goal.returns-clause-untouched_one
+returns-clause-untouched_one g c early = c.held-ended.ensures.early_one (early_closed c.held-ended.result c.close.result c.close.ensures.end early)
+
+pub returns-clause-untouched_two : goal.returns-clause-untouched_two
+returns-clause-untouched_two g c early = c.held-ended.ensures.early_two (early_closed c.held-ended.result c.close.result c.close.ensures.end early)
+
+pub returns-clause-dry : goal.returns-clause-dry
+returns-clause-dry g c work dry =
+    changes_closed (g.W.Work.state c.args.work.now).folder (g.W.Work.state c.enter.new.work).folder (g.W.Work.state c.held-ended.new.work).folder (g.W.Work.state c.close.new.work).folder
+    (c.in-Ok.ensures.others work) (c.held-ended.ensures.dry dry work)
+    (c.close.ensures.kept work (falls_dry c.args.opts.now.resilient c.args.opts.now.dry_run c.held-ended.result dry))
+
+pub returns-clause-set_aside : goal.returns-clause-set_aside
+returns-clause-set_aside g c mode mode_is work dry good =
+    let f = (g.W.Work.state c.args.work.now).folder in
+    let f2 = (g.W.Work.state c.enter.new.work).folder in
+    let mid = (g.W.Work.state c.held-ended.new.work).folder in
+    let h = (g.W.Work.state c.close.new.work).folder in
+    let ok = after_good_was_ok _ _ c.held-ended.result c.close.result c.held-ended.ensures.causes.fault c.close.ensures.end good in
+    aside_closed c.args.opts.now c.in-Ok.entered.rules c.in-Ok.entered.digest f f2 mid h (c.in-Ok.ensures.rules work) (c.in-Ok.ensures.others work)
+    (on_ok c.held-ended.result ok (c.held-ended.ensures.set_aside mode mode_is work dry)) (c.close.ensures.kept work (falls_ok c.args.opts.now.resilient c.args.opts.now.dry_run c.held-ended.result ok))
+
+pub returns-clause-only : goal.returns-clause-only
+returns-clause-only g c mode mode_is = own_closed c.args.opts.now c.held-ended.result c.close.result c.close.ensures.end (c.held-ended.ensures.kind mode mode_is)
+
+pub returns-clause-kept : goal.returns-clause-kept
+returns-clause-kept g c work early stays =
+    let f = (g.W.Work.state c.args.work.now).folder in
+    let f2 = (g.W.Work.state c.enter.new.work).folder in
+    let mid = (g.W.Work.state c.held-ended.new.work).folder in
+    let h = (g.W.Work.state c.close.new.work).folder in
+    changes_closed f f2 mid h (c.in-Ok.ensures.others work) (c.held-ended.ensures.early (early_closed c.held-ended.result c.close.result c.close.ensures.end early) work)
+    (c.close.ensures.kept work (falls_closed c.args.opts.now.resilient c.args.opts.now.dry_run c.held-ended.result c.close.result c.close.ensures.end stays))
+
+pub returns-clause-only_fallen : goal.returns-clause-only_fallen
+returns-clause-only_fallen g c work early =
+    let f = (g.W.Work.state c.args.work.now).folder in
+    let f2 = (g.W.Work.state c.enter.new.work).folder in
+    let mid = (g.W.Work.state c.held-ended.new.work).folder in
+    let h = (g.W.Work.state c.close.new.work).folder in
+    fallen_closed f f2 mid h (c.in-Ok.ensures.others work) (c.held-ended.ensures.early (early_closed c.held-ended.result c.close.result c.close.ensures.end early) work) (c.close.ensures.closes work)
+
+pub returns-clause-fallen : goal.returns-clause-fallen
+returns-clause-fallen g c work fell never =
+    let a = (g.W.Work.state c.args.work.now).faults in
+    let b = (g.W.Work.state c.enter.new.work).faults in
+    let m = (g.W.Work.state c.held-ended.new.work).faults in
+    let z = (g.W.Work.state c.close.new.work).faults in
+    c.close.ensures.fallen work (fell_closed c.args.opts.now.resilient c.args.opts.now.dry_run c.held-ended.result c.close.result c.held-ended.ensures.well c.close.ensures.end fell)
+    (no_rise_last a b m z never c.in-Ok.ensures.causes.later.work c.held-ended.ensures.causes.later.work)
+
+pub returns-clause-freed : goal.returns-clause-freed
+returns-clause-freed g c work freed =
+    let was = freed_was_good _ _ c.held-ended.result c.close.result c.held-ended.ensures.well c.held-ended.ensures.causes.fault c.close.ensures.end freed in
+    c.close.ensures.good work was.0 was.1
+
+pub returns-clause-lock_new : goal.returns-clause-lock_new
+returns-clause-lock_new g c work never =
+    let a = (g.W.Work.state c.args.work.now).faults in
+    let b = (g.W.Work.state c.enter.new.work).faults in
+    let m = (g.W.Work.state c.held-ended.new.work).faults in
+    let z = (g.W.Work.state c.close.new.work).faults in
+    lock_new_twice (lock_new_twice (c.in-Ok.ensures.lock_new work) (c.held-ended.ensures.lock_new work (no_rise_mid a b m z never c.in-Ok.ensures.causes.later.work c.close.ensures.later)))
+    (lock_new_closed (g.W.Work.state c.held-ended.new.work).folder (g.W.Work.state c.close.new.work).folder (c.close.ensures.closes work))
+
+pub returns-clause-no_digest : goal.returns-clause-no_digest
+returns-clause-no_digest g c work none =
+    let f = (g.W.Work.state c.args.work.now).folder in
+    let f2 = (g.W.Work.state c.enter.new.work).folder in
+    let mid = (g.W.Work.state c.held-ended.new.work).folder in
+    let h = (g.W.Work.state c.close.new.work).folder in
+    no_digest_closed c.args.opts.now.filters c.in-Ok.entered.rules c.in-Ok.entered.digest f f2 mid h (c.in-Ok.ensures.rules work) none (c.in-Ok.ensures.others work) (c.held-ended.ensures.no_digest work) (c.close.ensures.closes work)
+
+pub returns-clause-entry : goal.returns-clause-entry
+returns-clause-entry g c work un = absurd (locked_closed c.held-ended.result c.close.result c.close.ensures.end c.held-ended.ensures.only un)
+
+pub returns-clause-told : goal.returns-clause-told
+returns-clause-told g c = closed_told (by_side g.A.Remote.tells g.B.Remote.tells) (by_side (g.A.Remote.state c.args.one.now) (g.B.Remote.state c.args.two.now)) c.held-ended.result c.close.result c.close.ensures.end c.held-ended.ensures.told
+
+pub returns-clause-quiet : goal.returns-clause-quiet
+returns-clause-quiet g c sink never quiet = c.held-ended.ensures.quiet sink never (quiet_closed c.held-ended.result c.close.result c.close.ensures.end quiet)
+
+pub returns-clause-lines : goal.returns-clause-lines
+returns-clause-lines g c sink = c.held-ended.ensures.lines sink
+
+pub returns-in-Err-clause-built : goal.returns-in-Err-clause-built
+returns-in-Err-clause-built g c = unlocked_built c.in-Err.end c.in-Err.ensures.only
+
+pub returns-clause-built : goal.returns-clause-built
+returns-clause-built g c = closed_built _ _ c.held-ended.result c.close.result c.held-ended.ensures.well c.held-ended.ensures.causes.fault c.close.ensures.end
+
+pub returns-clause-report : goal.returns-clause-report
+returns-clause-report g c mode mode_is one two sink work =
+    let a = g.A.Remote.state c.args.one.now in
+    let b = g.B.Remote.state c.args.two.now in
+    let s = sides_of c.args.opts.now.compare c.in-Ok.entered.rules a b in
+    let f = (g.W.Work.state c.args.work.now).folder in
+    let f2 = (g.W.Work.state c.enter.new.work).folder in
+    let changes = c.in-Ok.ensures.others work in
+    let m : Matter c.args.opts.now f (by_side a b) = record { rules = c.in-Ok.entered.rules; digest = c.in-Ok.entered.digest; are = c.in-Ok.ensures.rules work } in
+    tells_closed mode c.args.opts.now f (by_side a b) (by_side (g.A.Remote.state c.held-ended.new.one) (g.B.Remote.state c.held-ended.new.two)) m
+    (g.S.Sink.state c.args.sink.now).bytes (g.S.Sink.state c.held-ended.new.sink).bytes _ _ c.held-ended.result c.close.result
+    c.held-ended.ensures.well c.held-ended.ensures.causes.fault c.close.ensures.end (c.held-ended.ensures.report mode mode_is one two sink)
+
+-- # An ordinary run
+
+pub returns-in-Err-clause-run_answers : goal.returns-in-Err-clause-run_answers
+returns-in-Err-clause-run_answers g c none one two work = inl (c.in-Err.ensures.entry work)
+
+pub returns-in-Err-clause-unrefused : goal.returns-in-Err-clause-unrefused
+returns-in-Err-clause-unrefused g c none one two work good = absurd (unlocked_not_after_good c.args.opts.now.filters c.in-Err.end c.in-Err.ensures.kind good)
+
+pub returns-in-Err-clause-done : goal.returns-in-Err-clause-done
+returns-in-Err-clause-done g c none one two work dry only good = absurd (unlocked_not_after_good c.args.opts.now.filters c.in-Err.end c.in-Err.ensures.kind good)
+
+pub returns-in-Err-clause-run_numbers : goal.returns-in-Err-clause-run_numbers
+returns-in-Err-clause-run_numbers g c none one two work good =
+    absurd (unlocked_not_after_good c.args.opts.now.filters c.in-Err.end c.in-Err.ensures.kind (good_is_after_good c.in-Err.end good))
+
+pub returns-in-Err-clause-run_base : goal.returns-in-Err-clause-run_base
+returns-in-Err-clause-run_base g c none one two work base is =
+    inl (base_past (g.W.Work.state c.args.work.now).folder (g.W.Work.state c.enter.new.work).folder (c.in-Err.ensures.others work) c.args.limits.now.listing base is)
+
+pub returns-in-Err-clause-resilient_base : goal.returns-in-Err-clause-resilient_base
+returns-in-Err-clause-resilient_base g c none one two work stays base is =
+    inl (base_past (g.W.Work.state c.args.work.now).folder (g.W.Work.state c.enter.new.work).folder (c.in-Err.ensures.others work) c.args.limits.now.listing base is)
+
+pub returns-in-Err-clause-run_trees : goal.returns-in-Err-clause-run_trees
+returns-in-Err-clause-run_trees g c none one two work = inl (untouched_same (by_side (g.A.Remote.state c.args.one.now) (g.B.Remote.state c.args.two.now)))
+
+pub returns-in-Err-clause-run_rest : goal.returns-in-Err-clause-run_rest
+returns-in-Err-clause-run_rest g c none work = rest_locked (g.W.Work.state c.args.work.now).folder (g.W.Work.state c.enter.new.work).folder (c.in-Err.ensures.others work)
+
+pub returns-in-Err-clause-only_run : goal.returns-in-Err-clause-only_run
+returns-in-Err-clause-only_run g c none = unlocked_is_ordinary c.args.opts.now _ c.in-Err.end c.in-Err.ensures.kind
+
+pub returns-in-Err-clause-run_report : goal.returns-in-Err-clause-run_report
+returns-in-Err-clause-run_report g c none one two work sink =
+    tells_unlocked c.args.opts.now c.args.limits.now (g.W.Work.state c.args.work.now).folder (by_side (g.A.Remote.state c.args.one.now) (g.B.Remote.state c.args.two.now))
+    (g.S.Sink.state c.args.sink.now).bytes c.in-Err.end (unlocked_not_after_good c.args.opts.now.filters c.in-Err.end c.in-Err.ensures.kind)
+    (untouched_same (by_side (g.A.Remote.state c.args.one.now) (g.B.Remote.state c.args.two.now)))
+
+pub returns-clause-run_answers : goal.returns-clause-run_answers
+returns-clause-run_answers g c none one two work =
+    let a = g.A.Remote.state c.args.one.now in
+    let b = g.B.Remote.state c.args.two.now in
+    let f = (g.W.Work.state c.args.work.now).folder in
+    let m : Matter c.args.opts.now f (by_side a b) = record { rules = c.in-Ok.entered.rules; digest = c.in-Ok.entered.digest; are = c.in-Ok.ensures.rules work } in
+    let s = sides_of c.args.opts.now.compare c.in-Ok.entered.rules a b in
+    let f2 = (g.W.Work.state c.enter.new.work).folder in
+    inr (
+      λ clock. c.in-Ok.ensures.free work clock,
+      (
+        m,
+        run_answers_before c.args.opts.now c.args.limits.now f f2 (c.in-Ok.ensures.others work) s c.in-Ok.entered.digest c.close.result
+            (run_answers_closed c.args.opts.now c.args.limits.now f2 s c.in-Ok.entered.digest c.held-ended.result c.close.result c.close.ensures.end
+            (c.held-ended.ensures.run_answers none one two work) (c.held-ended.ensures.unrefused none one two work)),
+      ),
+    )
+
+pub returns-clause-unrefused : goal.returns-clause-unrefused
+returns-clause-unrefused g c none one two work good =
+    let f = (g.W.Work.state c.args.work.now).folder in
+    let m : Matter c.args.opts.now f _ = record { rules = c.in-Ok.entered.rules; digest = c.in-Ok.entered.digest; are = c.in-Ok.ensures.rules work } in
+    let ok = after_good_was_ok _ _ c.held-ended.result c.close.result c.held-ended.ensures.causes.fault c.close.ensures.end good in (
+      λ clock. c.in-Ok.ensures.free work clock,
+      (m, unrefused_before c.args.opts.now c.args.limits.now f _ (c.in-Ok.ensures.others work) _ _ (on_ok c.held-ended.result ok (c.held-ended.ensures.unrefused none one two work))),
+    )
+
+pub returns-clause-done : goal.returns-clause-done
+returns-clause-done g c none one two work dry only good =
+    let f = (g.W.Work.state c.args.work.now).folder in
+    let m : Matter c.args.opts.now f _ = record { rules = c.in-Ok.entered.rules; digest = c.in-Ok.entered.digest; are = c.in-Ok.ensures.rules work } in
+    let ok = after_good_was_ok _ _ c.held-ended.result c.close.result c.held-ended.ensures.causes.fault c.close.ensures.end good in (
+      m,
+      run_done_closed c.args.opts.now c.args.limits.now _ c.in-Ok.entered.digest _ _ f _ _ _ (c.in-Ok.ensures.others work)
+          (on_ok c.held-ended.result ok (c.held-ended.ensures.done none one two work dry only))
+          (c.close.ensures.kept work (falls_ok c.args.opts.now.resilient c.args.opts.now.dry_run c.held-ended.result ok)),
+    )
+
+pub returns-clause-run_numbers : goal.returns-clause-run_numbers
+returns-clause-run_numbers g c none one two work good =
+    let a = g.A.Remote.state c.args.one.now in
+    let b = g.B.Remote.state c.args.two.now in
+    let f = (g.W.Work.state c.args.work.now).folder in
+    let m : Matter c.args.opts.now f (by_side a b) = record { rules = c.in-Ok.entered.rules; digest = c.in-Ok.entered.digest; are = c.in-Ok.ensures.rules work } in
+    let s = sides_of c.args.opts.now.compare c.in-Ok.entered.rules a b in
+    let f2 = (g.W.Work.state c.enter.new.work).folder in (
+      m,
+      good_before c.args.opts.now c.args.limits.now f f2 (c.in-Ok.ensures.others work) s c.in-Ok.entered.digest c.close.result
+          (numbers_closed (IsGoodOrdinaryEnd c.args.opts.now c.args.limits.now f2 s c.in-Ok.entered.digest) _ _ c.held-ended.result c.close.result c.held-ended.ensures.causes.fault
+          c.close.ensures.end (c.held-ended.ensures.run_good none one two work) good),
+    )
+
+pub returns-clause-run_base : goal.returns-clause-run_base
+returns-clause-run_base g c none one two work base is =
+    let f = (g.W.Work.state c.args.work.now).folder in
+    let m : Matter c.args.opts.now f _ = record { rules = c.in-Ok.entered.rules; digest = c.in-Ok.entered.digest; are = c.in-Ok.ensures.rules work } in
+    ⊎_elim inl (λ other. inr (⊎_elim inl (λ made. inr (m, made)) other))
+    (run_base_closed c.args.opts.now c.args.limits.now _ c.in-Ok.entered.digest _ f _ _ _ (c.in-Ok.ensures.others work)
+    (c.held-ended.ensures.run_base none one two work) (c.close.ensures.closes work) base is)
+
+pub returns-clause-resilient_base : goal.returns-clause-resilient_base
+returns-clause-resilient_base g c none one two work stays base is =
+    let f = (g.W.Work.state c.args.work.now).folder in
+    let m : Matter c.args.opts.now f _ = record { rules = c.in-Ok.entered.rules; digest = c.in-Ok.entered.digest; are = c.in-Ok.ensures.rules work } in
+    ⊎_elim inl (λ made. inr (m, made))
+    (base_kept c.args.opts.now c.args.limits.now _ c.in-Ok.entered.digest _ f _ _ _ (c.in-Ok.ensures.others work) (c.held-ended.ensures.run_base none one two work)
+    (c.close.ensures.kept work (falls_resilient c.args.opts.now.resilient c.args.opts.now.dry_run c.held-ended.result stays)) base is)
+
+pub returns-clause-run_trees : goal.returns-clause-run_trees
+returns-clause-run_trees g c none one two work =
+    let f = (g.W.Work.state c.args.work.now).folder in
+    let m : Matter c.args.opts.now f _ = record { rules = c.in-Ok.entered.rules; digest = c.in-Ok.entered.digest; are = c.in-Ok.ensures.rules work } in
+    ⊎_elim inl
+    (λ way. inr (λ clock. c.in-Ok.ensures.free work clock, (m, way_before c.args.opts.now c.args.limits.now _ c.in-Ok.entered.digest _ f _ (c.in-Ok.ensures.others work) way)))
+    (c.held-ended.ensures.run_trees none one two work)
+
+pub returns-clause-run_rest : goal.returns-clause-run_rest
+returns-clause-run_rest g c none work = rest_closed _ _ _ _ (c.in-Ok.ensures.others work) (c.held-ended.ensures.run_rest none work) (c.close.ensures.closes work)
+
+pub returns-clause-only_run : goal.returns-clause-only_run
+returns-clause-only_run g c none = ordinary_closed c.args.opts.now _ c.held-ended.result c.close.result c.close.ensures.end (c.held-ended.ensures.run_kind none)
+
+pub returns-clause-run_report : goal.returns-clause-run_report
+returns-clause-run_report g c none one two work sink =
+    let f = (g.W.Work.state c.args.work.now).folder in
+    let m : Matter c.args.opts.now f _ = record { rules = c.in-Ok.entered.rules; digest = c.in-Ok.entered.digest; are = c.in-Ok.ensures.rules work } in
+    run_tells_closed c.args.opts.now c.args.limits.now f _ (c.in-Ok.ensures.others work) _ _ m
+    (g.S.Sink.state c.args.sink.now).bytes (g.S.Sink.state c.held-ended.new.sink).bytes _ _ c.held-ended.result c.close.result
+    c.held-ended.ensures.well c.held-ended.ensures.causes.fault c.close.ensures.end (c.held-ended.ensures.run_report none one two work sink)
+
+pub returns-in-Err-clause-only_base : goal.returns-in-Err-clause-only_base
+returns-in-Err-clause-only_base g c none only work good = absurd (unlocked_not_after_good c.args.opts.now.filters c.in-Err.end c.in-Err.ensures.kind good)
+
+pub returns-clause-only_base : goal.returns-clause-only_base
+returns-clause-only_base g c none only work good =
+    let ok = after_good_was_ok _ _ c.held-ended.result c.close.result c.held-ended.ensures.causes.fault c.close.ensures.end good in
+    changes_closed (g.W.Work.state c.args.work.now).folder (g.W.Work.state c.enter.new.work).folder (g.W.Work.state c.held-ended.new.work).folder (g.W.Work.state c.close.new.work).folder
+    (c.in-Ok.ensures.others work) (c.held-ended.ensures.compares none only work)
+    (c.close.ensures.kept work (falls_ok c.args.opts.now.resilient c.args.opts.now.dry_run c.held-ended.result ok))
+
+pub returns-clause-blocked : goal.returns-clause-blocked
+returns-clause-blocked g c work clock until blocks = absurd (free_or_blocking _ until (g.W.Work.state c.args.work.now).folder.lock (c.in-Ok.ensures.free work clock) blocks)
+
+pub returns-in-Err-clause-fell : goal.returns-in-Err-clause-fell
+returns-in-Err-clause-fell g c work early fell never =
+    absurd (never (unlocked_fell c.args.opts.now.filters (counts 0 0 (g.W.Work.state c.args.work.now).faults 0) (counts 0 0 (g.W.Work.state c.enter.new.work).faults 0)
+    c.args.opts.now.resilient c.args.opts.now.dry_run c.in-Err.end c.in-Err.ensures.kind c.in-Err.ensures.causes.fault fell))
+
+pub returns-clause-fell : goal.returns-clause-fell
+returns-clause-fell g c work early fell never =
+    fell_before _ _ (g.W.Work.state c.held-ended.new.work).folder _ (c.in-Ok.ensures.others work) (c.held-ended.ensures.early (early_closed c.held-ended.result c.close.result c.close.ensures.end early) work)
+    (c.close.ensures.fell work (fell_closed c.args.opts.now.resilient c.args.opts.now.dry_run c.held-ended.result c.close.result c.held-ended.ensures.well c.close.ensures.end fell)
+    (no_rise_last _ (g.W.Work.state c.enter.new.work).faults (g.W.Work.state c.held-ended.new.work).faults _ never c.in-Ok.ensures.causes.later.work c.held-ended.ensures.causes.later.work))
