@@ -1,6 +1,6 @@
 //! How a run begins: the work folder is attached, the filter rules are read, and the lock is taken.
 
-ghost use Rattle.std.specs.Prelude.{◌≡◌, ◌≢◌, IsTrue, true, IfOk, IfErr, OnOk, None, option_copied};
+ghost use Rattle.std.specs.Prelude.{◌≡◌, ◌≢◌, IsTrue, true, IfOk, IfErr, OnOk, None};
 ghost use Rattle.bisync_device.specs.Work.{KeepsFolder};
 ghost use Rattle.bisync_tree.specs.Ranges.{IsLongEnough};
 ghost use Rattle.bisync_work.specs.Locks.{ChangesLock, IsFree, KeepsBlocking};

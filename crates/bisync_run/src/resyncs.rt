@@ -1,7 +1,6 @@
 //! A resync that holds the lock.
 
 ghost use Rattle.std.specs.Prelude.{◌≡◌, ◌++◌, ℕ, List, IsTrue, IfOk, IfErr, OnOk, None, true, false};
-ghost use Rattle.bisync_tree.specs.Ranges.{ComparesSome, IsLongEnough};
 ghost use Rattle.bisync_model.specs.Trees.{by_side};
 ghost use Rattle.bisync_device.specs.Faults.{Rose};
 ghost use Rattle.bisync_device.specs.WorkFolder.{IsSettled};

@@ -1,19 +1,15 @@
 //! From what base an ordinary run starts.
 
 ghost use Rattle.std.specs.Prelude.{◌≡◌, ◌≢◌, ℕ, List, Option, IsTrue, IfOk, IfErr, IfNone, IfSome, OnOk, None, Some, true, false};
-ghost use Rattle.bisync_tree.specs.Rows.{look};
-ghost use Rattle.bisync_tree.specs.Same.{Agree};
 ghost use Rattle.bisync_filter.specs.Digests.{IsDigest};
-ghost use Rattle.bisync_model.specs.Trees.{by_side};
 ghost use Rattle.bisync_device.specs.Work.{KeepsFolder};
 ghost use Rattle.bisync_device.specs.WorkFolder.{WorkFolder};
 ghost use Rattle.bisync_plan.specs.Conditions.{IsStamp};
-ghost use Rattle.bisync_plan.specs.Faults.{IsFirstApart};
 ghost use Rattle.bisync_work.specs.Found.{IsFound, AreFoundFields};
 ghost use Rattle.bisync_run.specs.Counts.{Counts, counts, HasCauses};
 ghost use Rattle.bisync_run.specs.OrdinaryEnds.{IsStartEnd};
 ghost use Rattle.bisync_run.specs.Sides.{compare_in};
-ghost use Rattle.bisync_run.specs.Starts.{HoldsOther, IsReadable, IsStartOf, IsStartRefusal, IsStored, MayStart, HasFields, fields_of};
+ghost use Rattle.bisync_run.specs.Starts.{IsStartOf, IsStored, MayStart, HasFields, fields_of};
 ghost use Rattle.bisync_run.specs.Starting.{IsStartAnswer, ComparesBase};
 
 use crate::looking::run_compare;
@@ -96,6 +92,7 @@ fn see_digest(bytes: &[u8; 16])
     let _bytes = bytes.as_slice();
 }
 
+/// The same of a digest that may be absent.
 fn see_stored(stored: &Option<[u8; 16]>)
     ensures { IfSome stored.now IsDigest }
 {
