@@ -4,6 +4,7 @@ pub mod RisingLemmas
 pub mod SearchLemmas
 pub mod LookLemmas
 pub mod WalkLemmas
+pub mod HavingLemmas
 pub mod SameLemmas
 pub mod ListingLemmas
 pub mod PassingLemmas

@@ -10,21 +10,21 @@ use Rattle.bisync_tree.proofs.PathOrder.{order, path_is_itself, same_path, other
 use Rattle.bisync_tree.proofs.RisingLemmas.{above_trans, above_withs, rising_withs, among_withs, rising_same}
 use Rattle.bisync_tree.proofs.LookLemmas.{look_absent, look_is_some}
 
-abbrev NotBelow : PathBytes → Option PathBytes → Type 0
+abbrev pub NotBelow : PathBytes → Option PathBytes → Type 0
 NotBelow p None = Unit {0}
 NotBelow p (Some q) = (order p q ≡ Less) ⊎ (p ≡ q)
 
 some_is : {p q : PathBytes} → ◌≡◌ {A = Option PathBytes} (Some p) (Some q) → p ≡ q
 some_is e = cc
 
-not_below_trans : (p q : PathBytes) (a : Option PathBytes) → NotBelow p (Some q) → NotBelow q a → NotBelow p a
+pub not_below_trans : (p q : PathBytes) (a : Option PathBytes) → NotBelow p (Some q) → NotBelow q a → NotBelow p a
 not_below_trans p q None h k = tt
 not_below_trans p q (Some r) (inl h) (inl k) = inl (below_trans p q r h k)
 not_below_trans p q (Some r) (inl h) (inr k) = inl (subst (λ x. order p x ≡ Less) k h)
 not_below_trans p q (Some r) (inr h) (inl k) = inl (subst (λ x. order x r ≡ Less) (sym h) k)
 not_below_trans p q (Some r) (inr h) (inr k) = inr (h ∙ k)
 
-lesser_least : (a b : Option PathBytes) (p : PathBytes) → lesser_key a b ≡ Some p → NotBelow p a × NotBelow p b × ((a ≡ Some p) ⊎ (b ≡ Some p))
+pub lesser_least : (a b : Option PathBytes) (p : PathBytes) → lesser_key a b ≡ Some p → NotBelow p a × NotBelow p b × ((a ≡ Some p) ⊎ (b ≡ Some p))
 lesser_least None None p e = cc
 lesser_least None (Some q) p e = (tt, inr (sym (some_is e)), inr e)
 lesser_least (Some x) None p e = (inr (sym (some_is e)), tt, inl e)

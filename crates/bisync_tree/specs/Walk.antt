@@ -1,5 +1,5 @@
 -- A walk over four listings, a cell for each path.
-use Rattle.std.specs.Prelude.{◌||◌, Bool, List, [], ◌∷◌, map, Option, Some, None, is_some, option_copied, bytes_eq, if◌then◌else◌}
+use Rattle.std.specs.Prelude.{◌≡◌, ◌||◌, Bool, true, false, List, [], ◌∷◌, map, Option, Some, None, is_some, option_copied, bytes_eq, if◌then◌else◌}
 use Rattle.std.specs.Ordering.{nat_cmp, is_lt}
 use Rattle.std.specs.Cmp.Lexicographic.{slice_cmp}
 use Rattle.std.specs.declared.cmp.Ordering.{Ordering}
@@ -8,6 +8,7 @@ use Rattle.bisync_tree.specs.Rows.{PathBytes, Rows, keys, look, AreRising}
 use Rattle.bisync_tree.specs.declared.entries.Entry.{Entry}
 use Rattle.bisync_tree.specs.declared.views.View.{View}
 use Rattle.bisync_tree.specs.declared.walks.Cell.{Cell}
+use Rattle.bisync_tree.specs.declared.walks.Least.{Least}
 
 abbrev pub first_key : Rows → Option PathBytes
 first_key [] = None
@@ -25,6 +26,34 @@ entry_at_head (r ∷ rs) p = if bytes_eq r.0 p then Some r.1 else None
 abbrev pub rest_after : Rows → PathBytes → Rows
 rest_after [] p = []
 rest_after (r ∷ rs) p = if bytes_eq r.0 p then rs else r ∷ rs
+
+-- whether there is a path, and it is the one
+abbrev pub is_key : Option PathBytes → PathBytes → Bool
+is_key None p = false
+is_key (Some q) p = bytes_eq q p
+
+abbrev pub entry_where : Bool → Rows → Option Entry
+entry_where taken [] = None
+entry_where taken (r ∷ rs) = if taken then Some r.1 else None
+
+abbrev pub rest_where : Bool → Rows → Rows
+rest_where taken [] = []
+rest_where taken (r ∷ rs) = if taken then rs else r ∷ rs
+
+abbrev pub least_path : Option Least → Option PathBytes
+least_path None = None
+least_path (Some least) = Some least.path.now
+
+-- the lesser of two paths, and which of the two it is
+abbrev pub IsLeast : Option PathBytes → Option PathBytes → Option Least → Type 0
+IsLeast a b None = (a ≡ None) × (b ≡ None)
+IsLeast a b (Some least) =
+    (lesser_key a b ≡ Some least.path.now)
+    × (least.is_first ≡ is_key a least.path.now) × (least.is_second ≡ is_key b least.path.now)
+
+abbrev pub haves : Option Least → Bool → Bool × Bool
+haves None is_least = (false, false)
+haves (Some least) is_least = if is_least then (least.is_first, least.is_second) else (false, false)
 
 -- a path in its place among rising paths, where it isn't there yet
 abbrev pub placed : Ordering → PathBytes → PathBytes → List PathBytes → List PathBytes → List PathBytes

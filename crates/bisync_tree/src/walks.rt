@@ -4,7 +4,7 @@ ghost use Rattle.std.specs.Prelude.{◌≡◌, [], ◌∷◌, None, option_copie
 ghost use Rattle.bisync_tree.specs.Rows.{PathBytes, is_among, AreRising};
 ghost use Rattle.bisync_tree.specs.Walk.{Listings, listings, listings_of, paths_of, has_path};
 ghost use Rattle.bisync_tree.specs.Walk.{cells, seen, AllRising};
-ghost use Rattle.bisync_tree.specs.Walk.{first_key, lesser_key, entry_at_head, rest_after};
+ghost use Rattle.bisync_tree.specs.Walk.{first_key, IsLeast, least_path, haves, entry_where, rest_where};
 
 use crate::listings::Row;
 use crate::{Entry, Listing, View};
@@ -34,6 +34,26 @@ pub struct Walk<'a> {
     base2: &'a [Row],
     now1: &'a [Row],
     now2: &'a [Row],
+}
+
+/// The lesser path of a pair, and which of the two it is.
+#[derive(Clone, Copy)]
+struct Least<'a> {
+    path: &'a Path,
+    is_first: bool,
+    is_second: bool,
+}
+
+impl<'a> Least<'a> {
+    fn new(path: &'a Path, is_first: bool, is_second: bool) -> Least<'a>
+        ensures { result ≡ record { path = path.entry; is_first = is_first; is_second = is_second } }
+    {
+        Least {
+            path,
+            is_first,
+            is_second,
+        }
+    }
 }
 
 impl<'a> Model for Walk<'a> {
@@ -79,23 +99,23 @@ impl<'a> Walk<'a> {
         ensures cell { MatchOption result (self.old ≡ []) (λ cell. self.old ≡ seen cell ∷ self.new) }
         ensures end { result ≡ None → self.new ≡ [] }
     {
-        let least = lesser(
-            lesser(head(self.base1), head(self.base2)),
-            lesser(head(self.now1), head(self.now2)),
-        );
-        match least {
+        let bases = lesser_of(head(self.base1), head(self.base2));
+        let nows = lesser_of(head(self.now1), head(self.now2));
+        match lesser_of(path_of(bases), path_of(nows)) {
             None => None,
-            Some(path) => {
-                let (base1, rest1) = take_head(self.base1, path);
-                let (base2, rest2) = take_head(self.base2, path);
-                let (now1, rest3) = take_head(self.now1, path);
-                let (now2, rest4) = take_head(self.now2, path);
+            Some(least) => {
+                let (is_base1, is_base2) = having(bases, least.is_first);
+                let (is_now1, is_now2) = having(nows, least.is_second);
+                let (base1, rest1) = take_head(self.base1, is_base1);
+                let (base2, rest2) = take_head(self.base2, is_base2);
+                let (now1, rest3) = take_head(self.now1, is_now1);
+                let (now2, rest4) = take_head(self.now2, is_now2);
                 self.base1 = rest1;
                 self.base2 = rest2;
                 self.now1 = rest3;
                 self.now2 = rest4;
                 Some(Cell {
-                    path,
+                    path: least.path,
                     base1,
                     base2,
                     now1,
@@ -122,27 +142,55 @@ fn head<'a>(rows: &'a [Row]) -> Option<&'a Path>
     }
 }
 
-/// The lesser of two paths, where both are there.
-fn lesser<'a>(a: Option<&'a Path>, b: Option<&'a Path>) -> Option<&'a Path>
-    ensures { option_copied result ≡ lesser_key (option_copied a.entry) (option_copied b.entry) }
+/// The lesser of two paths where both are there, and else the one that is. Equal paths are the commonest case,
+/// and cost no look at their order.
+fn lesser_of<'a>(a: Option<&'a Path>, b: Option<&'a Path>) -> Option<Least<'a>>
+    ensures { IsLeast (option_copied a.entry) (option_copied b.entry) result }
 {
     match (a, b) {
-        (None, b) => b,
-        (a, None) => a,
-        (Some(a), Some(b)) => match b.cmp(a) {
-            Ordering::Less => Some(b),
-            _ => Some(a),
-        },
+        (None, None) => None,
+        (None, Some(path)) => Some(Least::new(path, false, true)),
+        (Some(path), None) => Some(Least::new(path, true, false)),
+        (Some(a), Some(b)) => {
+            if *a == *b {
+                Some(Least::new(a, true, true))
+            } else {
+                match b.cmp(a) {
+                    Ordering::Less => Some(Least::new(b, false, true)),
+                    _ => Some(Least::new(a, true, false)),
+                }
+            }
+        }
     }
 }
 
-/// The entry of the path where it stands first, and the rows after it.
-fn take_head<'a>(rows: &'a [Row], path: &Path) -> (Option<&'a Entry>, &'a [Row])
-    ensures entry { option_copied result.0 ≡ entry_at_head rows.now path.now }
-    ensures rest { result.1.now ≡ rest_after rows.now path.now }
+/// The path of a pair.
+fn path_of<'a>(pair: Option<Least<'a>>) -> Option<&'a Path>
+    ensures { option_copied result ≡ least_path pair.entry }
+{
+    match pair {
+        None => None,
+        Some(least) => Some(least.path),
+    }
+}
+
+/// Which of a pair have the least path of all, where the pair's own is that path.
+fn having(pair: Option<Least>, is_least: bool) -> (bool, bool)
+    ensures { result ≡ haves pair.entry is_least }
+{
+    match pair {
+        Some(least) if is_least => (least.is_first, least.is_second),
+        _ => (false, false),
+    }
+}
+
+/// The first entry where it is to be taken, and the rows after it.
+fn take_head<'a>(rows: &'a [Row], is_taken: bool) -> (Option<&'a Entry>, &'a [Row])
+    ensures entry { option_copied result.0 ≡ entry_where is_taken rows.now }
+    ensures rest { result.1.now ≡ rest_where is_taken rows.now }
 {
     match rows.split_first() {
-        Some((row, rest)) if row.0 == *path => (Some(&row.1), rest),
+        Some((row, rest)) if is_taken => (Some(&row.1), rest),
         _ => (None, rows),
     }
 }
