@@ -1,8 +1,7 @@
 -- Which of the four listings have the least path, from the lesser paths of two pairs.
-use Rattle.std.proofs.Common.{◌≡◌, ◌⊎◌, Bool, true, false, cond, List, [], ◌∷◌, Option, Some, None, refl, sym, ◌∙◌, ap, subst, inl, inr}
+use Rattle.std.proofs.Common.{◌≡◌, ◌⊎◌, Bool, true, false, [], ◌∷◌, Option, Some, None, refl, sym, ◌∙◌, ap, subst, inl, inr}
 use Rattle.std.specs.Prelude.{bytes_eq}
-use Rattle.std.specs.declared.cmp.Ordering.{Ordering}
-use Rattle.std.specs.declared.cmp.Ordering.TheVariants.{Less, Equal, Greater}
+use Rattle.std.specs.declared.cmp.Ordering.TheVariants.{Less}
 use Rattle.bisync_tree.specs.Rows.{PathBytes, Rows}
 use Rattle.bisync_tree.specs.declared.walks.Least.{Least}
 use Rattle.bisync_tree.specs.Walk.{first_key, lesser_key, entry_at_head, rest_after, is_key, entry_where, rest_where, IsLeast, least_path, haves}
