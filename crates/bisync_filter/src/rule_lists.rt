@@ -74,6 +74,13 @@ impl Rules {
         }
     }
 
+    /// Whether there are no rules, by which every path passes.
+    pub fn is_empty(&self) -> bool
+        ensures { IsTrue result ↔ (self.now ≡ []) }
+    {
+        self.rules.is_empty()
+    }
+
     /// Whether a path passes. Takes no memory.
     pub fn passes(&self, path: &Path) -> bool
         ensures passes { IsTrue result ↔ Passes self.now (chars path.now) }

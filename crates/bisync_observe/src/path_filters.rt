@@ -29,6 +29,10 @@ impl<'a> PathFilter<'a> {
         ensures test { result ≡ rules_pass self.old.rules.now path.now }
         ensures rules { self.new.rules ≡ self.old.rules }
     {
+        // With no rules nothing of the path needs to be known.
+        if self.rules.is_empty() {
+            return true;
+        }
         self.subject.set(path);
         self.rules.passes_in(&self.subject, &mut self.room)
     }
