@@ -6,3 +6,4 @@ pub mod LookedLemmas
 pub mod SeenLemmas
 pub mod TreeLemmas
 pub mod ViewLemmas
+pub mod FictionLemmas

@@ -3,6 +3,7 @@
 ghost use Rattle.std.specs.Prelude.{◌≡◌, IfOk, IfErr, IsTrue};
 ghost use Rattle.bisync_device.specs.Faults.{HasCause};
 ghost use Rattle.bisync_filter.specs.Passing.{rules_pass};
+ghost use Rattle.bisync_tree.specs.Tree.{Tree};
 ghost use Rattle.bisync_observe.specs.FileReading.{OnlyReads};
 ghost use Rattle.bisync_observe.specs.Observing.{ArePassingNames, AreWithin, HaveDigestsFor, IsCause, IsSeenOf, is_remote_fault};
 
@@ -50,6 +51,8 @@ pub fn observe<R: Remote>(
     ensures digests { IfOk result (λ seen. HaveDigestsFor compare.now seen.listing) }
     ensures within { IfOk result (λ seen. AreWithin limits.now seen.names) }
     ensures refusal { IfErr result (λ fault. IsCause R.tells (R.state remote.old).tree compare.now (rules_pass rules.now) limits.now fault) }
+    // It is what some tree would show.
+    ensures some { IfOk result (λ seen. (tree : Tree) × IsSeenOf compare.now (rules_pass rules.now) tree seen.names seen.listing) }
 
     // Where it tells what it holds.
     ensures seen { IfOk result (λ seen. IsTrue R.tells → IsSeenOf compare.now (rules_pass rules.now) (R.state remote.old).tree seen.names seen.listing) }

@@ -9,6 +9,7 @@ use Rattle.bisync_observe.specs.Observing.{ArePassingNames, AreWithin, HaveDiges
 use Rattle.bisync_observe.specs.Seeing.{IsSeen, IsWhyUnseen}
 use Rattle.bisync_observe.specs.declared.faults.ObserveFault.{ObserveFault}
 use Rattle.bisync_observe.specs.declared.observing.Seen.{Seen}
+use Rattle.bisync_observe.proofs.FictionLemmas.{fiction}
 use Rattle.bisync_observe.proofs.SeenLemmas.{listed_named}
 use Rattle.bisync_observe.proofs.TreeLemmas.{bare_entry, counted, no_digest, told_items, told_paths, why_unread}
 use Rattle.bisync_observe.proofs.ViewLemmas.{if_ok, if_err, within, digests, seen_of, told_rows, why_unseen}
@@ -79,3 +80,13 @@ returns-clause-seen g c =
     (λ seen is t. seen_of _ _ _ start _ _ _ (told t)
     (subst (λ (x : Tree). IsSeen tells x c.args.compare.now.hash passes c.put_in_order.new.rows.items seen.names seen.listing) (c.in-Ok.ensures.tree t).tree is) t)
     c.see_rows.ensures.seen
+
+pub returns-clause-some : goal.returns-clause-some
+returns-clause-some g c =
+    let none = λ (p : PathBytes) (e : Entry) (is : look c.put_in_order.new.rows.items p ≡ Some e).
+    no_digest c.list.new.out.items p e (sym (c.in_ok-put_in_order.ensures.first p ∙ ap (λ (r : Rows). look r p) c.in-Ok-read_rows.ensures.ok) ∙ is) in
+    let passes = rules_pass c.args.rules.now in
+    if_ok c.see_rows.result
+    (λ (seen : Seen). IsSeen g.R.Remote.tells (g.R.Remote.state c.list.new.self).tree c.args.compare.now.hash passes c.put_in_order.new.rows.items seen.names seen.listing)
+    (λ (seen : Seen). (tree : Tree) × IsSeenOf c.args.compare.now passes tree seen.names seen.listing)
+    (λ seen is. fiction _ c.args.compare.now passes _ _ _ _ none is) c.see_rows.ensures.seen
