@@ -62,7 +62,7 @@ with_file : (c : Compare) (hash : Bool) (tells : Bool) (tree : Tree) (p : PathBy
 with_file c false tells tree p row e hash none is = (
   record { bytes = replicate {A = ℕ} row.size 0; time = row.time },
   is ∙ (λ i. record { size = sym (length-replicate {A = ℕ} row.size 0) i; time = row.time; hash = none i })
-  ∙ sym (ap (λ b. record { size = length (replicate {A = ℕ} row.size 0); time = row.time; hash = cond b (Some (md5 (replicate {A = ℕ} row.size 0))) None }) hash),
+      ∙ sym (ap (λ b. record { size = length (replicate {A = ℕ} row.size 0); time = row.time; hash = cond b (Some (md5 (replicate {A = ℕ} row.size 0))) None }) hash),
 )
 with_file c true tells tree p row e hash none is = (
   record { bytes = is.0; time = row.time },
