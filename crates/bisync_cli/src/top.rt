@@ -1,19 +1,24 @@
 //! The top call.
 
-ghost use Rattle.std.specs.Prelude.{◌≡◌, ◌≢◌, ◌++◌, ◌||◌, ℕ, List, [], IsTrue, None, Some, true, false};
+ghost use Rattle.std.specs.Prelude.{◌≡◌, ◌≢◌, ◌++◌, ◌||◌, ℕ, List, [], Option, IsTrue, None, Some, true, false};
+ghost use Rattle.bisync_tree.specs.Rows.{PathBytes};
+ghost use Rattle.bisync_tree.specs.declared.entries.Entry.{Entry};
 ghost use Rattle.bisync_tree.specs.declared.options.Prefer.{Prefer};
 ghost use Rattle.bisync_model.specs.Trees.{by_side};
 ghost use Rattle.bisync_device.specs.Faults.{Rose};
 ghost use Rattle.bisync_device.specs.Remote.{KeepsTree};
 ghost use Rattle.bisync_device.specs.WorkFolder.{Absent, WorkFolder, IsSettled, IsImage};
-ghost use Rattle.bisync_work.specs.Locks.{ChangesLock, KeepsBlocking};
+ghost use Rattle.bisync_work.specs.Locks.{ChangesLock, IsFree, KeepsBlocking};
 ghost use Rattle.bisync_work.specs.Moves.{IsFallen};
 ghost use Rattle.bisync_report.specs.LastLine.{last_text};
 ghost use Rattle.bisync_report.specs.Status.{status_of};
+ghost use Rattle.bisync_report.specs.declared.ends.End.TheVariants.{OutOfSync};
+ghost use Rattle.bisync_run.specs.Agreement.{LeavesInSync, LeavesResyncInSync, WasApartBefore};
+ghost use Rattle.bisync_run.specs.Beginnings.{AnswersBeginningOf, IsWellBegunOf};
 ghost use Rattle.bisync_run.specs.Closing.{HasNoListings, but_fallen_or_lock};
 ghost use Rattle.bisync_run.specs.Counts.{counts, Later, Ends};
-ghost use Rattle.bisync_run.specs.EndKinds.{is_good, is_after_good, has_freed, is_unlocked, lets_fall, may_have_changed, may_tell_plan};
-ghost use Rattle.bisync_run.specs.Entering.{IsEntryEndWhere, IsHeldBack};
+ghost use Rattle.bisync_run.specs.EndKinds.{is_good, is_after_good, has_freed, is_before_lock, is_unlocked, lets_fall, may_have_changed, may_tell_plan};
+ghost use Rattle.bisync_run.specs.Entering.{AtMoment, HasSomeRules, IsEntryEnd, IsHeldBack};
 ghost use Rattle.bisync_run.specs.Grounds.{HasGrounds, IsTold};
 ghost use Rattle.bisync_run.specs.LockNew.{KeepsLockNew};
 ghost use Rattle.bisync_run.specs.Ordinary.{but_ordinary_or_fallen};
@@ -79,8 +84,16 @@ pub fn bisync_main<A: Folders, B: Folders, K: Remote, L: Remote, W: Work, C: Clo
         AnswersOrdinaryRun opts Limits.REAL (W.state work.old).folder (by_side (A.state one.old) (B.state two.old)) C.tells (C.moment clock.old) result.end) }
     ensures unrefused { OfRun (task_in words.now) (λ opts. opts.resync ≡ None → IsTrue A.tells → IsTrue B.tells → IsTrue W.tells → is_after_good result.end ≡ true →
         IsUnrefused opts Limits.REAL (W.state work.old).folder (by_side (A.state one.old) (B.state two.old)) C.tells (C.moment clock.old)) }
+    ensures begins { OfRun (task_in words.now) (λ opts. opts.resync ≡ None → IsTrue W.tells → AnswersBeginningOf opts Limits.REAL (W.state work.old).folder (by_side (A.state one.old) (B.state two.old)) C.tells (C.moment clock.old) result.end) }
+    ensures begun { OfRun (task_in words.now) (λ opts. opts.resync ≡ None → IsTrue W.tells → is_after_good result.end ≡ true → IsWellBegunOf opts Limits.REAL (W.state work.old).folder (by_side (A.state one.old) (B.state two.old)) C.tells (C.moment clock.old)) }
     ensures done { OfRun (task_in words.now) (λ opts. opts.resync ≡ None → IsTrue A.tells → IsTrue B.tells → IsTrue W.tells → opts.dry_run ≡ false → opts.check_sync ≢ CheckSync.Only → is_after_good result.end ≡ true →
         IsDoneBy opts Limits.REAL (W.state work.old).folder (by_side (A.state one.old) (B.state two.old)) (W.state work.new).folder (by_side (A.state one.new) (B.state two.new))) }
+    ensures in_sync { OfRun (task_in words.now) (λ opts. opts.resync ≡ None → IsTrue A.tells → IsTrue B.tells → IsTrue W.tells → opts.dry_run ≡ false → opts.check_sync ≢ CheckSync.Only → is_after_good result.end ≡ true →
+        LeavesInSync opts Limits.REAL (W.state work.old).folder (by_side (A.state one.old) (B.state two.old)) (by_side (A.state one.new) (B.state two.new))) }
+    ensures was_apart { OfRun (task_in words.now) (λ opts. opts.resync ≡ None → IsTrue A.tells → IsTrue B.tells → IsTrue W.tells → (p : PathBytes) (first second : Option Entry) → result.end ≡ OutOfSync p first second →
+        WasApartBefore opts Limits.REAL (W.state work.old).folder (by_side (A.state one.old) (B.state two.old))) }
+    ensures resync_in_sync { OfRun (task_in words.now) (λ opts. IsTrue A.tells → IsTrue B.tells → IsTrue W.tells → (mode : Prefer) → opts.resync ≡ Some mode → opts.dry_run ≡ false → is_after_good result.end ≡ true →
+        LeavesResyncInSync mode opts (W.state work.old).folder (by_side (A.state one.old) (B.state two.old)) (by_side (A.state one.new) (B.state two.new))) }
     ensures run_numbers { OfRun (task_in words.now) (λ opts. opts.resync ≡ None → IsTrue A.tells → IsTrue B.tells → IsTrue W.tells → is_good result.end ≡ true → HasOrdinaryNumbers opts Limits.REAL (W.state work.old).folder (by_side (A.state one.old) (B.state two.old)) result.end) }
     ensures run_base { OfRun (task_in words.now) (λ opts. opts.resync ≡ None → IsTrue A.tells → IsTrue B.tells → IsTrue W.tells →
         LeavesOrdinaryBaseOf opts Limits.REAL (W.state work.old).folder (by_side (A.state one.old) (B.state two.old)) (W.state work.new).folder (by_side (A.state one.new) (B.state two.new))) }
@@ -100,7 +113,8 @@ pub fn bisync_main<A: Folders, B: Folders, K: Remote, L: Remote, W: Work, C: Clo
     ensures only_two { OfRun (task_in words.now) (λ opts. opts.resync ≡ None → opts.check_sync ≡ CheckSync.Only → KeepsTree B.tells (B.state two.old) (B.state two.new)) }
     ensures only_base { OfRun (task_in words.now) (λ opts. opts.resync ≡ None → opts.check_sync ≡ CheckSync.Only → IsTrue W.tells → is_after_good result.end ≡ true →
         ChangesLock (W.state work.old).folder (W.state work.new).folder) }
-    ensures blocked { IsTrue W.tells → IsTrue C.tells → KeepsBlocking (C.moment clock.old) (W.state work.old).folder (W.state work.new).folder }
+    ensures entered { OfRun (task_in words.now) (λ opts. IsTrue W.tells → is_before_lock result.end ≡ false → AtMoment C.tells (C.moment clock.old) (λ now. IsFree now (W.state work.old).folder.lock) × HasSomeRules opts.filters (W.state work.old).folder) }
+    ensures blocked { IsTrue W.tells → AtMoment C.tells (C.moment clock.old) (λ now. KeepsBlocking now (W.state work.old).folder (W.state work.new).folder) }
     ensures settled { IsTrue W.tells → IsSettled (W.state work.old).folder → IsSettled (W.state work.new).folder }
     ensures rest { IsTrue W.tells → but_run (W.state work.new).folder ≡ but_run (W.state work.old).folder }
     ensures untouched_one { may_have_changed result.end ≡ false → KeepsTree A.tells (A.state one.old) (A.state one.new) }
@@ -121,7 +135,7 @@ pub fn bisync_main<A: Folders, B: Folders, K: Remote, L: Remote, W: Work, C: Clo
     ensures lock_new { IsTrue W.tells → (Rose (W.state work.old).faults (W.state work.new).faults → ⊥) → KeepsLockNew (W.state work.old).folder (W.state work.new).folder }
     ensures no_digest { OfRun (task_in words.now) (λ opts. IsTrue W.tells → opts.filters ≡ None → (W.state work.new).folder.filters_md5 ≡ (W.state work.old).folder.filters_md5) }
     ensures entry { OfRun (task_in words.now) (λ opts. IsTrue W.tells → is_unlocked result.end ≡ true →
-        IsEntryEndWhere opts.filters (W.state work.old).folder C.tells (C.moment clock.old) result.end) }
+        IsEntryEnd opts.filters (W.state work.old).folder C.tells (C.moment clock.old) result.end) }
     ensures held_back { IsTrue C.tells → IsHeldBack (C.moment clock.old) result.end }
     ensures grounds { HasGrounds Limits.REAL (by_side A.tells B.tells) result.end }
     ensures told_truly { IsTold (by_side A.tells B.tells) (by_side (A.state one.old) (B.state two.old)) result.end }
@@ -134,6 +148,7 @@ pub fn bisync_main<A: Folders, B: Folders, K: Remote, L: Remote, W: Work, C: Clo
         Ends (counts (A.state one.old).faults (B.state two.old).faults (W.state work.old).faults (S.state sink.old).faults) (counts (A.state one.new).faults (B.state two.new).faults (W.state work.new).faults (S.state sink.new).faults) result.end) }
     ensures quiet { IsTrue S.tells → (Rose (S.state sink.old).faults (S.state sink.new).faults → ⊥) → may_tell_plan result.end ≡ false →
         (S.state sink.new).bytes ≡ (S.state sink.old).bytes ++ last_text result.end }
+    ensures only_quiet { OfRun (task_in words.now) (λ opts. opts.resync ≡ None → opts.check_sync ≡ CheckSync.Only → IsTrue S.tells → (Rose (S.state sink.old).faults (S.state sink.new).faults → ⊥) → (S.state sink.new).bytes ≡ (S.state sink.old).bytes ++ last_text result.end) }
     ensures lines { IsTrue S.tells → (Rose (S.state sink.old).faults (S.state sink.new).faults → ⊥) →
         (lines : List ℕ) × ((S.state sink.new).bytes ≡ ((S.state sink.old).bytes ++ lines) ++ last_text result.end) }
     ensures report { OfRun (task_in words.now) (λ opts. IsTrue A.tells → IsTrue B.tells → IsTrue S.tells → IsTrue W.tells → (mode : Prefer) → opts.resync ≡ Some mode →

@@ -6,12 +6,13 @@ use Rattle.bisync_device.specs.WorkFolder.{Absent, WorkFolder, Held}
 use Rattle.bisync_filter.specs.declared.rule_lists.Rule.{Rule}
 use Rattle.bisync_opts.specs.declared.options.Opts.{Opts}
 use Rattle.bisync_report.specs.declared.ends.End.{End}
+use Rattle.bisync_report.specs.declared.ends.End.TheVariants.{WorkFault, NoFilters, BadRule, Locked, OutOfMemory}
 use Rattle.bisync_work.specs.Locks.{ChangesLock}
 use Rattle.bisync_work.specs.Moves.{but_fallen, moved_over}
 use Rattle.bisync_run.specs.CarryingOut.{AreSetAside}
 use Rattle.bisync_run.specs.Closing.{ClosesWith, Closes, EndsWith, Unlocks, but_fallen_or_lock}
 use Rattle.bisync_run.specs.Counts.{Counts, Stops}
-use Rattle.bisync_run.specs.EndKinds.{is_good, has_freed, is_unlocked, lets_fall, falls_at_close, may_have_changed, may_tell_plan}
+use Rattle.bisync_run.specs.EndKinds.{is_good, has_freed, is_before_lock, is_unlocked, lets_fall, falls_at_close, may_have_changed, may_tell_plan}
 use Rattle.bisync_run.specs.FilterRules.{AreRulesOf}
 use Rattle.bisync_run.specs.HeldResyncs.{end_of}
 use Rattle.bisync_run.specs.LockNew.{KeepsLockNew}
@@ -125,3 +126,16 @@ freed_told end last (inr lost) freed = good_has_freed end lost.0
 pub unlocked_told : (end last : End) → EndsWith end last → is_unlocked last ≡ true → last ≡ end
 unlocked_told end last (inl same) un = same
 unlocked_told end last (inr lost) un = false_true (sym (ap is_unlocked lost.1) ∙ un)
+
+-- a good end comes of a run that got its lock
+good_is_held : (end : End) → is_good end ≡ true → is_before_lock end ≡ false
+good_is_held WorkFault good = false_true good
+good_is_held OutOfMemory good = false_true good
+good_is_held NoFilters good = false_true good
+good_is_held (BadRule line) good = false_true good
+good_is_held (Locked until) good = false_true good
+good_is_held end good = refl
+
+pub held_told : (end last : End) → EndsWith end last → is_before_lock last ≡ false → is_before_lock end ≡ false
+held_told end last (inl same) later = ap is_before_lock (sym same) ∙ later
+held_told end last (inr lost) later = good_is_held end lost.0

@@ -102,7 +102,7 @@ module _ (opts : Opts) (limits : Limits) (f g : WorkFolder) (changes : ChangesLo
     course_refusal_before base (OutOfSync p one two) x = unplanned_before x
     course_refusal_before base end x = absurd x
 
-    refusal_before : (end : End) → IsOrdinaryRefusal opts limits g s digest end → IsOrdinaryRefusal opts limits f s digest end
+    pub refusal_before : (end : End) → IsOrdinaryRefusal opts limits g s digest end → IsOrdinaryRefusal opts limits f s digest end
     refusal_before end x =
         ⊎_elim
         (λ start. inl (start_refusal_before digest end start))

@@ -47,3 +47,7 @@ pub mod BlockedFolders
 pub mod AgreementLaws
 pub mod PlannedViews
 pub mod LooksBefore
+pub mod BeginningLaws
+pub mod LookBeginnings
+pub mod WholeRefusals
+pub mod InSyncRuns

@@ -1,5 +1,5 @@
 -- What looking at the sides of a run that holds the lock came to, said of the folder without it, once the lock is freed.
-use Rattle.std.proofs.Common.{◌≡◌, ◌≤◌, subst, sym, inl, inr, ⊎_elim, true, false, arith, Bool, IsTrue, ℕ, ℤ, List, Option, Result, Ok, Err}
+use Rattle.std.proofs.Common.{◌≡◌, ◌≤◌, subst, sym, inl, inr, ⊎_elim, true, false, arith, Bool, ℕ, ℤ, List, Option, Result, Ok, Err}
 use Rattle.std.specs.Prelude.{IfOk, IfErr}
 use Rattle.bisync_tree.specs.declared.options.Limits.{Limits}
 use Rattle.bisync_device.specs.WorkFolder.{WorkFolder}
@@ -10,6 +10,7 @@ use Rattle.bisync_work.specs.declared.bases.Pair.{Pair}
 use Rattle.bisync_work.specs.Locks.{ChangesLock, IsFree}
 use Rattle.bisync_run.specs.Counts.{counts, HasCauses}
 use Rattle.bisync_run.specs.Courses.{IsLook}
+use Rattle.bisync_run.specs.Entering.{AtMoment}
 use Rattle.bisync_run.specs.LookRuns.{CountsFree, FreesWith, IsLookFrom, IsLookOf}
 use Rattle.bisync_run.specs.OrdinaryLooks.{AnswersLook}
 use Rattle.bisync_run.specs.OrdinaryRefusals.{AnswersOrdinary}
@@ -85,7 +86,7 @@ freed_causes a b w a2 b2 w2 w3 (Err end) result causes more is counted =
 
 -- # Said of the folder at entry
 
-module _ (opts : Opts) (limits : Limits) (f f2 : WorkFolder) (changes : ChangesLock f f2) (start : Remotes) (told : Bool) (moment : ℤ) (free : IsTrue told → IsFree moment f.lock) (m : Matter opts f start) where
+module _ (opts : Opts) (limits : Limits) (f f2 : WorkFolder) (changes : ChangesLock f f2) (start : Remotes) (told : Bool) (moment : ℤ) (free : AtMoment told moment (λ now. IsFree now f.lock)) (m : Matter opts f start) where
   look_before : (stamp : ℕ) (pair : Pair) (made : Look) → IsLook opts limits f2 (sides_in m) m.digest stamp pair made → IsLook opts limits f (sides_in m) m.digest stamp pair made
   look_before stamp pair made x = record {
     course = course_before opts limits f f2 changes (sides_in m) m.digest x.course;

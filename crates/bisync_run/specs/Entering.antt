@@ -1,5 +1,5 @@
 -- How a run begins: its filter rules, and the lock.
-use Rattle.std.specs.Prelude.{ℕ, ℤ, List, ◌∷◌, ◌++◌, Option, Bool, IsTrue, ⊤}
+use Rattle.std.specs.Prelude.{◌≡◌, ℕ, ℤ, List, ◌∷◌, ◌++◌, Option, Bool, IsTrue, ⊤}
 use Rattle.hex.specs.Hex.{encode_lower}
 use Rattle.md5.specs.Md5.{md5}
 use Rattle.bisync_filter.specs.declared.rule_lists.Rule.{Rule}
@@ -17,23 +17,18 @@ session_of root1 root2 = encode_lower (md5 (root1 ++ 10 ∷ root2))
 abbrev pub HasSomeRules : Option (List ℕ) → WorkFolder → Type 0
 HasSomeRules name f = (rules : List Rule) × (digest : Option (List ℕ)) × AreRulesOf name f.filters rules digest
 
--- why a run has no lock: a device failed, memory was refused, or the first of its first three refusals
-abbrev pub IsEntryEnd : Option (List ℕ) → WorkFolder → ℤ → End → Type 0
-IsEntryEnd name f moment WorkFault = ⊤
-IsEntryEnd name f moment OutOfMemory = ⊤
-IsEntryEnd name f moment NoFilters = LacksFilters name f.filters
-IsEntryEnd name f moment (BadRule line) = HasNoRuleAt name line f.filters
-IsEntryEnd name f moment (Locked until) = HasSomeRules name f × Blocks moment until f.lock
-IsEntryEnd name f moment end = ⊥
+-- What holds at the moment at which the run asks for the lock: the one that the clock tells, or any where it tells none.
+abbrev pub AtMoment : Bool → ℤ → (ℤ → Type 0) → Type 0
+AtMoment told moment Holds = (now : ℤ) × (IsTrue told → now ≡ moment) × Holds now
 
--- the same, where a lock that blocks is told of only where the clock tells its moment
-abbrev pub IsEntryEndWhere : Option (List ℕ) → WorkFolder → Bool → ℤ → End → Type 0
-IsEntryEndWhere name f told moment WorkFault = ⊤
-IsEntryEndWhere name f told moment OutOfMemory = ⊤
-IsEntryEndWhere name f told moment NoFilters = LacksFilters name f.filters
-IsEntryEndWhere name f told moment (BadRule line) = HasNoRuleAt name line f.filters
-IsEntryEndWhere name f told moment (Locked until) = HasSomeRules name f × (IsTrue told → Blocks moment until f.lock)
-IsEntryEndWhere name f told moment end = ⊥
+-- why a run has no lock: a device failed, memory was refused, or the first of its first three refusals
+abbrev pub IsEntryEnd : Option (List ℕ) → WorkFolder → Bool → ℤ → End → Type 0
+IsEntryEnd name f told moment WorkFault = ⊤
+IsEntryEnd name f told moment OutOfMemory = ⊤
+IsEntryEnd name f told moment NoFilters = LacksFilters name f.filters
+IsEntryEnd name f told moment (BadRule line) = HasNoRuleAt name line f.filters
+IsEntryEnd name f told moment (Locked until) = HasSomeRules name f × AtMoment told moment (λ now. Blocks now until f.lock)
+IsEntryEnd name f told moment end = ⊥
 
 -- a lock that blocks still holds
 abbrev pub IsHeldBack : ℤ → End → Type 0

@@ -25,5 +25,7 @@ pub mod OrdinaryLooks
 pub mod Ordinary
 pub mod OrdinaryChanges
 pub mod OrdinaryRuns
+pub mod Beginnings
+pub mod RunRefusals
 pub mod Agreement
 pub mod LookRuns

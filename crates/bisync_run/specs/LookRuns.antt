@@ -17,6 +17,7 @@ use Rattle.bisync_work.specs.Locks.{IsFree}
 use Rattle.bisync_report.specs.declared.ends.End.{End}
 use Rattle.bisync_report.specs.declared.ends.End.TheVariants.{WorkFault}
 use Rattle.bisync_run.specs.Courses.{IsLook}
+use Rattle.bisync_run.specs.Entering.{AtMoment}
 use Rattle.bisync_run.specs.FilterRules.{AreRulesOf}
 use Rattle.bisync_run.specs.ResyncRuns.{Matter, sides_in}
 use Rattle.bisync_run.specs.Sides.{Sides, compare_in}
@@ -51,10 +52,10 @@ pub record IsPlannedLook (opts : Opts) (told : Bool) (filters : Held) (window1 w
 abbrev pub IsLookFrom : Opts → Limits → WorkFolder → Sides → Option (List ℕ) → Look → Type 0
 IsLookFrom opts limits f s digest made = (stamp : ℕ) × (pair : Pair) × IsLook opts limits f s digest stamp pair made
 
--- So it is of the folder and the trees at entry. That no lock blocked is told where the clock tells its moment.
+-- So it is of the folder and the trees at entry, where no lock blocked.
 abbrev pub IsLookOf : Opts → Limits → WorkFolder → Remotes → Bool → ℤ → Look → Type 0
 IsLookOf opts limits f start told moment made =
-    (IsTrue told → IsFree moment f.lock) × ((m : Matter opts f start) × IsLookFrom opts limits f (sides_in m) m.digest made)
+    AtMoment told moment (λ now. IsFree now f.lock) × ((m : Matter opts f start) × IsLookFrom opts limits f (sides_in m) m.digest made)
 
 -- # Inside this crate
 

@@ -46,6 +46,17 @@ IsPriorEnd passes one two (EmptyPrior One) = passing passes one ≡ []
 IsPriorEnd passes one two (EmptyPrior Two) = (passing passes one ≢ []) × (passing passes two ≡ [])
 IsPriorEnd passes one two end = ⊥
 
+-- both have some
+abbrev pub HasPrior : (PathBytes → Bool) → Rows → Rows → Type 0
+HasPrior passes one two = (passing passes one ≢ []) × (passing passes two ≢ [])
+
+-- every refusal but the want of memory comes where both have some, but that of the first one that has none
+abbrev pub IsPriorAnswer : (PathBytes → Bool) → Rows → Rows → End → Type 0
+IsPriorAnswer passes one two OutOfMemory = ⊤
+IsPriorAnswer passes one two (EmptyPrior One) = passing passes one ≡ []
+IsPriorAnswer passes one two (EmptyPrior Two) = (passing passes one ≢ []) × (passing passes two ≡ [])
+IsPriorAnswer passes one two end = HasPrior passes one two
+
 -- the end of a run that a guard stops
 abbrev pub guard_end : Guard → End
 guard_end (guard.CheckAccess side path) = CheckAccess side path

@@ -1,5 +1,5 @@
 -- What a run that is no resync promises, over the state at its entry and the state at its return, whatever call failed.
-use Rattle.std.specs.Prelude.{◌≡◌, ◌≢◌, ◌⊎◌, ◌++◌, ℕ, ℤ, List, Option, Bool, true, IsTrue, option_map}
+use Rattle.std.specs.Prelude.{◌≡◌, ◌≢◌, ◌⊎◌, ◌++◌, ℕ, ℤ, List, Option, Bool, true, option_map}
 use Rattle.bisync_tree.specs.Rows.{PathBytes, look}
 use Rattle.bisync_tree.specs.declared.options.Limits.{Limits}
 use Rattle.bisync_tree.specs.declared.options.Loser.TheVariants.{Delete}
@@ -16,7 +16,7 @@ use Rattle.bisync_work.specs.Base.{Base, IsBase, HasNoBase}
 use Rattle.bisync_work.specs.Locks.{IsFree}
 use Rattle.bisync_report.specs.declared.ends.End.{End}
 use Rattle.bisync_run.specs.EndKinds.{is_after_good, is_sink_fault, may_tell_plan}
-use Rattle.bisync_run.specs.Entering.{IsEntryEndWhere}
+use Rattle.bisync_run.specs.Entering.{AtMoment, IsEntryEnd}
 use Rattle.bisync_run.specs.Ordinary.{IsMadeNext, AreOnTheWay, IsOrdinaryDone, IsGoodOrdinaryEnd, AreCourseLines}
 use Rattle.bisync_run.specs.OrdinaryRefusals.{AnswersOrdinary, HasNoOrdinaryRefusal}
 use Rattle.bisync_run.specs.ResyncRuns.{Matter, sides_in}
@@ -26,16 +26,17 @@ use Rattle.bisync_run.specs.Untouched.{Remotes, AreUntouched}
 -- # The answer
 
 -- What each end says: a refusal comes where its condition holds and none before it does, and the good end where none
--- does. That a device failed is told by its count. A lock is told of only where the clock tells its moment.
+-- does. That a device failed is told by its count. A lock blocks, or doesn't, at the moment that the clock tells, or at some
+-- moment where it tells none.
 abbrev pub AnswersOrdinaryRun : Opts → Limits → WorkFolder → Remotes → Bool → ℤ → End → Type 0
 AnswersOrdinaryRun opts limits f start told moment end =
-    IsEntryEndWhere opts.filters f told moment end
-    ⊎ ((IsTrue told → IsFree moment f.lock) × ((m : Matter opts f start) × AnswersOrdinary opts limits f (sides_in m) m.digest end))
+    IsEntryEnd opts.filters f told moment end
+    ⊎ (AtMoment told moment (λ now. IsFree now f.lock) × ((m : Matter opts f start) × AnswersOrdinary opts limits f (sides_in m) m.digest end))
 
 -- nothing refused it
 abbrev pub IsUnrefused : Opts → Limits → WorkFolder → Remotes → Bool → ℤ → Type 0
 IsUnrefused opts limits f start told moment =
-    (IsTrue told → IsFree moment f.lock) × ((m : Matter opts f start) × HasNoOrdinaryRefusal opts limits f (sides_in m) m.digest)
+    AtMoment told moment (λ now. IsFree now f.lock) × ((m : Matter opts f start) × HasNoOrdinaryRefusal opts limits f (sides_in m) m.digest)
 
 -- # What is left
 
@@ -53,12 +54,11 @@ abbrev pub KeepsOrdinaryBaseOf : Opts → Limits → WorkFolder → Remotes → 
 KeepsOrdinaryBaseOf opts limits f start g now =
     (base : Option Base) → IsBase limits.listing f base → IsBase limits.listing g base ⊎ IsMadeNextBy opts limits f start g now
 
--- No side was touched; or nothing refused the run, and the trees are between those before and those that it is to leave. That
--- no lock blocked is told where the clock tells its moment.
+-- No side was touched; or nothing refused the run, and the trees are between those before and those that it is to leave.
 abbrev pub LeavesOrdinaryTreesOf : Opts → Limits → WorkFolder → Remotes → Bool → ℤ → Remotes → Type 0
 LeavesOrdinaryTreesOf opts limits f start told moment now =
     AreUntouched start now
-    ⊎ ((IsTrue told → IsFree moment f.lock) × ((m : Matter opts f start) × AreOnTheWay opts limits f (sides_in m) m.digest now))
+    ⊎ (AtMoment told moment (λ now. IsFree now f.lock) × ((m : Matter opts f start) × AreOnTheWay opts limits f (sides_in m) m.digest now))
 
 -- The run was done.
 abbrev pub IsDoneBy : Opts → Limits → WorkFolder → Remotes → WorkFolder → Remotes → Type 0

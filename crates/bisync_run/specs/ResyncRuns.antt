@@ -1,5 +1,5 @@
 -- What a run that is a resync promises, over the state at its entry and the state at its return, whatever call failed.
-use Rattle.std.specs.Prelude.{◌≡◌, ◌⊎◌, ◌++◌, ℕ, ℤ, List, Option, Bool, true, false, IsTrue}
+use Rattle.std.specs.Prelude.{◌≡◌, ◌⊎◌, ◌++◌, ℕ, ℤ, List, Option, Bool, true, false}
 use Rattle.bisync_tree.specs.declared.sides.Side.TheVariants.{One, Two}
 use Rattle.bisync_tree.specs.declared.options.Limits.{Limits}
 use Rattle.bisync_tree.specs.declared.options.Prefer.{Prefer}
@@ -12,7 +12,7 @@ use Rattle.bisync_report.specs.declared.ends.End.{End}
 use Rattle.bisync_report.specs.declared.ends.End.TheVariants.{OutOfMemory}
 use Rattle.bisync_run.specs.CarryingOut.{AreSetAside, but_carried}
 use Rattle.bisync_run.specs.EndKinds.{is_after_good, is_sink_fault, is_unlocked, may_tell_plan}
-use Rattle.bisync_run.specs.Entering.{IsEntryEndWhere}
+use Rattle.bisync_run.specs.Entering.{AtMoment, IsEntryEnd}
 use Rattle.bisync_run.specs.FilterRules.{AreRulesOf}
 use Rattle.bisync_run.specs.HeldResyncs.{IsGoodEndOf}
 use Rattle.bisync_run.specs.Resyncs.{IsMadeAnew, IsResynced, LeavesTrees, resync_lines}
@@ -32,16 +32,17 @@ sides_in {opts = opts} {start = start} m = sides_of opts.compare m.rules (start 
 -- # The answer
 
 -- What each end says: a refusal comes where its condition holds and none before it does, and the good end where none
--- does. That a device failed is told by its count. A lock is told of only where the clock tells its moment.
+-- does. That a device failed is told by its count. A lock blocks, or doesn't, at the moment that the clock tells, or at some
+-- moment where it tells none.
 abbrev pub AnswersRun : Prefer → Opts → Limits → WorkFolder → Remotes → Bool → ℤ → End → Type 0
 AnswersRun mode opts limits f start told moment end =
-    IsEntryEndWhere opts.filters f told moment end
-    ⊎ ((IsTrue told → IsFree moment f.lock) × ((m : Matter opts f start) × AnswersResync mode limits f (sides_in m) end))
+    IsEntryEnd opts.filters f told moment end
+    ⊎ (AtMoment told moment (λ now. IsFree now f.lock) × ((m : Matter opts f start) × AnswersResync mode limits f (sides_in m) end))
 
 -- nothing refused it
 abbrev pub HasNoRefusal : Prefer → Opts → Limits → WorkFolder → Remotes → Bool → ℤ → Type 0
 HasNoRefusal mode opts limits f start told moment =
-    (IsTrue told → IsFree moment f.lock) × ((m : Matter opts f start) × HasNoResyncRefusal mode limits f (sides_in m))
+    AtMoment told moment (λ now. IsFree now f.lock) × ((m : Matter opts f start) × HasNoResyncRefusal mode limits f (sides_in m))
 
 -- # What is left
 
@@ -54,12 +55,11 @@ LeavesBaseOf mode opts limits f start g now =
     ⊎ (HasNoBase limits.listing g
     ⊎ ((m : Matter opts f start) × IsMadeAnew mode limits f (sides_in m) g now))
 
--- No side was touched; or nothing refused the resync, and each side has at each path what it had, or what it is to have. That
--- no lock blocked is told where the clock tells its moment.
+-- No side was touched; or nothing refused the resync, and each side has at each path what it had, or what it is to have.
 abbrev pub LeavesTreesOf : Prefer → Opts → Limits → WorkFolder → Remotes → Bool → ℤ → Remotes → Type 0
 LeavesTreesOf mode opts limits f start told moment now =
     AreUntouched start now
-    ⊎ ((IsTrue told → IsFree moment f.lock) × ((m : Matter opts f start) × LeavesTrees mode limits f (sides_in m) start now))
+    ⊎ (AtMoment told moment (λ now. IsFree now f.lock) × ((m : Matter opts f start) × LeavesTrees mode limits f (sides_in m) start now))
 
 -- The resync was done.
 abbrev pub IsResyncedBy : Prefer → Opts → Limits → WorkFolder → Remotes → WorkFolder → Remotes → Type 0

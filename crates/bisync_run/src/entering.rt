@@ -6,7 +6,7 @@ ghost use Rattle.bisync_tree.specs.Ranges.{IsLongEnough};
 ghost use Rattle.bisync_work.specs.Locks.{ChangesLock, IsFree, KeepsBlocking};
 ghost use Rattle.bisync_run.specs.Counts.{counts, HasCauses};
 ghost use Rattle.bisync_run.specs.EndKinds.{is_before_lock};
-ghost use Rattle.bisync_run.specs.Entering.{IsEntryEnd, IsEntryEndWhere, IsHeldBack, IsRulesEnd, IsNoLock, session_of};
+ghost use Rattle.bisync_run.specs.Entering.{AtMoment, IsEntryEnd, IsHeldBack, IsRulesEnd, IsNoLock, session_of};
 ghost use Rattle.bisync_run.specs.FilterRules.{AreRulesOf};
 ghost use Rattle.bisync_run.specs.LockNew.{KeepsLockNew};
 ghost use Rattle.bisync_run.specs.ResyncEnds.{IsUnlockedEnd};
@@ -53,11 +53,10 @@ pub fn enter<W: Work, C: Clock>(
     requires { IsLongEnough opts.now.max_lock }
     ensures rules { IsTrue W.tells → IfOk result (λ entered. AreRulesOf opts.now.filters (W.state work.old).folder.filters entered.rules entered.digest) }
     ensures unfiltered { opts.now.filters ≡ None → IfOk result (λ entered. entered.digest ≡ None) }
-    ensures free { IsTrue W.tells → IsTrue C.tells → OnOk result (IsFree (C.moment clock.old) (W.state work.old).folder.lock) }
-    ensures refusal { IsTrue W.tells → IsTrue C.tells → IfErr result (IsEntryEnd opts.now.filters (W.state work.old).folder (C.moment clock.old)) }
-    ensures entry { IsTrue W.tells → IfErr result (IsEntryEndWhere opts.now.filters (W.state work.old).folder C.tells (C.moment clock.old)) }
+    ensures free { IsTrue W.tells → OnOk result (AtMoment C.tells (C.moment clock.old) (λ now. IsFree now (W.state work.old).folder.lock)) }
+    ensures entry { IsTrue W.tells → IfErr result (IsEntryEnd opts.now.filters (W.state work.old).folder C.tells (C.moment clock.old)) }
     ensures held_back { IsTrue C.tells → IfErr result (IsHeldBack (C.moment clock.old)) }
-    ensures blocked { IsTrue W.tells → IsTrue C.tells → KeepsBlocking (C.moment clock.old) (W.state work.old).folder (W.state work.new).folder }
+    ensures blocked { IsTrue W.tells → AtMoment C.tells (C.moment clock.old) (λ now. KeepsBlocking now (W.state work.old).folder (W.state work.new).folder) }
     ensures only { IfErr result (λ end. is_before_lock end ≡ true) }
     ensures kind { IfErr result (IsUnlockedEnd opts.now.filters) }
     ensures kept { IsTrue W.tells → IfErr result (λ end. end ≢ End.WorkFault → (W.state work.new).folder ≡ (W.state work.old).folder) }

@@ -8,6 +8,7 @@ ghost use Rattle.bisync_device.specs.WorkFolder.{IsSettled};
 ghost use Rattle.bisync_device.specs.Remote.{KeepsTree};
 ghost use Rattle.bisync_device.specs.Work.{KeepsFolder};
 ghost use Rattle.bisync_opts.specs.Ranges.{IsInRange};
+ghost use Rattle.bisync_run.specs.Beginnings.{AnswersBeginning, IsWellBegun};
 ghost use Rattle.bisync_run.specs.CarryingOut.{AreSetAside, but_carried};
 ghost use Rattle.bisync_run.specs.Counts.{counts, HasCauses};
 ghost use Rattle.bisync_run.specs.EndKinds.{is_good, is_unlocked, may_have_changed, may_tell_plan};
@@ -72,12 +73,15 @@ pub fn held<A: Remote, B: Remote, W: Work, C: Clock, S: Sink>(
         AnswersOrdinary opts.now limits.now (W.state work.old).folder (sides_of opts.now.compare entered.now.rules (A.state one.old) (B.state two.old)) entered.now.digest (end_of result) }
     ensures unrefused { opts.now.resync ≡ None → IsTrue A.tells → IsTrue B.tells → IsTrue W.tells →
         OnOk result (HasNoOrdinaryRefusal opts.now limits.now (W.state work.old).folder (sides_of opts.now.compare entered.now.rules (A.state one.old) (B.state two.old)) entered.now.digest) }
+    ensures begins { opts.now.resync ≡ None → IsTrue W.tells → AnswersBeginning opts.now limits.now (W.state work.old).folder (sides_of opts.now.compare entered.now.rules (A.state one.old) (B.state two.old)) entered.now.digest (end_of result) }
+    ensures begun { opts.now.resync ≡ None → IsTrue W.tells → OnOk result (IsWellBegun opts.now limits.now (W.state work.old).folder (sides_of opts.now.compare entered.now.rules (A.state one.old) (B.state two.old)) entered.now.digest) }
     ensures run_kind { opts.now.resync ≡ None → IsOrdinaryEnd opts.now (compare_in opts.now.compare (A.state one.old).window (B.state two.old).window) (end_of result) }
     ensures run_report { opts.now.resync ≡ None → IsTrue A.tells → IsTrue B.tells → IsTrue W.tells → IsTrue S.tells →
         TellsCourse opts.now limits.now (W.state work.old).folder (sides_of opts.now.compare entered.now.rules (A.state one.old) (B.state two.old)) entered.now.digest (by_side (A.state one.old) (B.state two.old)) (by_side (A.state one.new) (B.state two.new)) (S.state sink.old).bytes (S.state sink.new).bytes result }
     ensures compares_one { opts.now.resync ≡ None → opts.now.check_sync ≡ CheckSync.Only → KeepsTree A.tells (A.state one.old) (A.state one.new) }
     ensures compares_two { opts.now.resync ≡ None → opts.now.check_sync ≡ CheckSync.Only → KeepsTree B.tells (B.state two.old) (B.state two.new) }
     ensures compares { opts.now.resync ≡ None → opts.now.check_sync ≡ CheckSync.Only → KeepsFolder W.tells (W.state work.old) (W.state work.new) }
+    ensures compares_sink { opts.now.resync ≡ None → opts.now.check_sync ≡ CheckSync.Only → S.state sink.new ≡ S.state sink.old }
     ensures settled { IsTrue W.tells → IsSettled (W.state work.old).folder → IsSettled (W.state work.new).folder }
     ensures rest { IsTrue W.tells → but_carried (W.state work.new).folder ≡ but_carried (W.state work.old).folder }
     ensures well { IfOk result (λ end. is_good end ≡ true) }

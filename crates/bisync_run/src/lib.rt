@@ -3,6 +3,7 @@
 
 mod agreement_laws;
 mod buffers;
+mod closed_runs;
 mod closing;
 mod entering;
 mod held;
@@ -28,5 +29,7 @@ mod tests;
 pub use agreement_laws::agreeing_bases_stay_in_sync;
 pub use look_alone::look;
 pub use looks::Look;
-pub use refusal_laws::{resync_refusals_are_exclusive, run_refusals_are_exclusive};
+pub use refusal_laws::{
+    all_refusals_are_exclusive, resync_refusals_are_exclusive, run_refusals_are_exclusive,
+};
 pub use runs::run;

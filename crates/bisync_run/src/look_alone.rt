@@ -7,11 +7,12 @@ ghost use Rattle.bisync_device.specs.Remote.{KeepsTree};
 ghost use Rattle.bisync_device.specs.Work.{KeepsFolder};
 ghost use Rattle.bisync_device.specs.WorkFolder.{Absent};
 ghost use Rattle.bisync_opts.specs.Ranges.{IsInRange};
-ghost use Rattle.bisync_work.specs.Locks.{ChangesLock};
+ghost use Rattle.bisync_work.specs.Locks.{ChangesLock, KeepsBlocking};
+ghost use Rattle.bisync_run.specs.Beginnings.{AnswersBeginning, AnswersBeginningOf, IsBegun, IsWellBegunOf};
 ghost use Rattle.bisync_run.specs.Closing.{Unlocks};
 ghost use Rattle.bisync_run.specs.Counts.{counts, HasCauses};
 ghost use Rattle.bisync_run.specs.EndKinds.{is_unlocked};
-ghost use Rattle.bisync_run.specs.Entering.{IsEntryEndWhere, IsHeldBack};
+ghost use Rattle.bisync_run.specs.Entering.{AtMoment, IsEntryEnd, IsHeldBack};
 ghost use Rattle.bisync_run.specs.Grounds.{HasGrounds, IsTold};
 ghost use Rattle.bisync_run.specs.Looking.{OnlyLooks};
 ghost use Rattle.bisync_run.specs.LockNew.{KeepsLockNew};
@@ -50,6 +51,10 @@ fn look_held<A: Remote, B: Remote, W: Work>(
         (IsLookFrom opts.now limits.now (W.state work.old).folder (sides_of opts.now.compare entered.now.rules (A.state one.old) (B.state two.old)) entered.now.digest) }
     ensures refusal { IsTrue A.tells → IsTrue B.tells → IsTrue W.tells → IfErr result
         (AnswersOrdinary opts.now limits.now (W.state work.old).folder (sides_of opts.now.compare entered.now.rules (A.state one.old) (B.state two.old)) entered.now.digest) }
+    ensures begins { IsTrue W.tells → IfErr result
+        (AnswersBeginning opts.now limits.now (W.state work.old).folder (sides_of opts.now.compare entered.now.rules (A.state one.old) (B.state two.old)) entered.now.digest) }
+    ensures begun { IsTrue W.tells → OnOk result
+        (IsBegun opts.now limits.now (W.state work.old).folder (sides_of opts.now.compare entered.now.rules (A.state one.old) (B.state two.old)) entered.now.digest) }
     ensures planned { IfOk result (IsPlannedView opts.now entered.now.rules (A.state one.old).window (B.state two.old).window) }
     ensures kind { IfErr result (IsOrdinaryEnd opts.now (compare_in opts.now.compare (A.state one.old).window (B.state two.old).window)) }
     ensures only { IfErr result (λ end. is_unlocked end ≡ false) }
@@ -114,11 +119,15 @@ pub fn look<A: Remote, B: Remote, W: Work, C: Clock>(
         (IsLookOf opts.now limits.now (W.state work.old).folder (by_side (A.state one.old) (B.state two.old)) C.tells (C.moment clock.old)) }
     ensures refusal { IsTrue A.tells → IsTrue B.tells → IsTrue W.tells → IfErr result
         (AnswersOrdinaryRun opts.now limits.now (W.state work.old).folder (by_side (A.state one.old) (B.state two.old)) C.tells (C.moment clock.old)) }
+    ensures begins { IsTrue W.tells → IfErr result
+        (AnswersBeginningOf opts.now limits.now (W.state work.old).folder (by_side (A.state one.old) (B.state two.old)) C.tells (C.moment clock.old)) }
+    ensures begun { IsTrue W.tells → OnOk result
+        (IsWellBegunOf opts.now limits.now (W.state work.old).folder (by_side (A.state one.old) (B.state two.old)) C.tells (C.moment clock.old)) }
 
     // Whatever they tell:
     ensures planned { IfOk result (IsPlannedLook opts.now W.tells (W.state work.old).folder.filters (A.state one.old).window (B.state two.old).window) }
     ensures kind { IfErr result (IsOrdinaryEnd opts.now (compare_in opts.now.compare (A.state one.old).window (B.state two.old).window)) }
-    ensures entry { IsTrue W.tells → IfErr result (λ end. is_unlocked end ≡ true → IsEntryEndWhere opts.now.filters (W.state work.old).folder C.tells (C.moment clock.old) end) }
+    ensures entry { IsTrue W.tells → IfErr result (λ end. is_unlocked end ≡ true → IsEntryEnd opts.now.filters (W.state work.old).folder C.tells (C.moment clock.old) end) }
     ensures held_back { IsTrue C.tells → IfErr result (IsHeldBack (C.moment clock.old)) }
     ensures grounds { IfErr result (HasGrounds limits.now (by_side A.tells B.tells)) }
     ensures told { IfErr result (IsTold (by_side A.tells B.tells) (by_side (A.state one.old) (B.state two.old))) }
@@ -127,6 +136,7 @@ pub fn look<A: Remote, B: Remote, W: Work, C: Clock>(
     ensures untouched_one { KeepsTree A.tells (A.state one.old) (A.state one.new) }
     ensures untouched_two { KeepsTree B.tells (B.state two.old) (B.state two.new) }
     ensures kept { IsTrue W.tells → ChangesLock (W.state work.old).folder (W.state work.new).folder }
+    ensures blocked { IsTrue W.tells → AtMoment C.tells (C.moment clock.old) (λ now. KeepsBlocking now (W.state work.old).folder (W.state work.new).folder) }
     ensures freed { IsTrue W.tells → OnOk result ((W.state work.new).folder.lock ≡ Absent) }
     ensures lock { IsTrue W.tells → (Rose (W.state work.old).faults (W.state work.new).faults → ⊥) → IfErr result (λ end. LeavesLock end (W.state work.old).folder (W.state work.new).folder) }
     ensures lock_new { IsTrue W.tells → (Rose (W.state work.old).faults (W.state work.new).faults → ⊥) → KeepsLockNew (W.state work.old).folder (W.state work.new).folder }

@@ -17,7 +17,7 @@ ghost use Rattle.bisync_run.specs.Grounds.{HasGrounds, IsTold};
 ghost use Rattle.bisync_run.specs.Looking.{OnlyLooks};
 ghost use Rattle.bisync_run.specs.LookRuns.{IsPlannedView};
 ghost use Rattle.bisync_run.specs.OrdinaryEnds.{IsUnplannedOrdinaryEnd};
-ghost use Rattle.bisync_run.specs.OrdinaryLooks.{IsPriorOf, IsPriorEnd, IsGuardEnd, ForStart, AnswersLook, IsPlannedFrom};
+ghost use Rattle.bisync_run.specs.OrdinaryLooks.{HasPrior, IsPriorOf, IsPriorAnswer, IsPriorEnd, IsGuardEnd, ForStart, AnswersLook, IsPlannedFrom};
 ghost use Rattle.bisync_run.specs.Sides.{compare_in, sides_of};
 
 use crate::looking::{BothSeen, look_at_both, run_compare};
@@ -63,6 +63,8 @@ pub fn look_ordinary<A: Remote, B: Remote>(
         (IsLook opts.now limits.now f (sides_of opts.now.compare rules.now (A.state one.old) (B.state two.old)) digest started.stamp started.pair)) }
     ensures refusal { IsTrue A.tells → IsTrue B.tells → (f : WorkFolder) (digest : Option (List ℕ)) → ForStart opts.now limits.now f digest started (IfErr result
         (AnswersLook opts.now limits.now f (sides_of opts.now.compare rules.now (A.state one.old) (B.state two.old)) digest)) }
+    ensures prior { IfErr result (IsPriorAnswer (rules_pass rules.now) started.one started.two) }
+    ensures had_prior { OnOk result (HasPrior (rules_pass rules.now) started.one started.two) }
     ensures kind { IfErr result (IsUnplannedOrdinaryEnd opts.now (compare_in opts.now.compare (A.state one.old).window (B.state two.old).window)) }
     ensures grounds { IfErr result (HasGrounds limits.now (by_side A.tells B.tells)) }
     ensures told { IfErr result (IsTold (by_side A.tells B.tells) (by_side (A.state one.old) (B.state two.old))) }

@@ -1,6 +1,8 @@
 //! One run.
 
-ghost use Rattle.std.specs.Prelude.{◌≡◌, ◌≢◌, ◌++◌, ◌||◌, ℕ, List, [], IsTrue, None, Some, true, false};
+ghost use Rattle.std.specs.Prelude.{◌≡◌, ◌≢◌, ◌++◌, ◌||◌, ℕ, List, Option, IsTrue, None, Some, true, false};
+ghost use Rattle.bisync_tree.specs.Rows.{PathBytes};
+ghost use Rattle.bisync_tree.specs.declared.entries.Entry.{Entry};
 ghost use Rattle.bisync_tree.specs.declared.options.Prefer.{Prefer};
 ghost use Rattle.bisync_model.specs.Trees.{by_side};
 ghost use Rattle.bisync_device.specs.Faults.{Rose};
@@ -8,12 +10,15 @@ ghost use Rattle.bisync_device.specs.Remote.{KeepsTree};
 ghost use Rattle.bisync_device.specs.WorkFolder.{Absent, WorkFolder, IsSettled, IsImage};
 ghost use Rattle.bisync_opts.specs.Ranges.{IsInRange};
 ghost use Rattle.bisync_report.specs.LastLine.{last_text};
-ghost use Rattle.bisync_work.specs.Locks.{ChangesLock, KeepsBlocking};
+ghost use Rattle.bisync_report.specs.declared.ends.End.TheVariants.{OutOfSync};
+ghost use Rattle.bisync_work.specs.Locks.{ChangesLock, IsFree, KeepsBlocking};
 ghost use Rattle.bisync_work.specs.Moves.{IsFallen};
+ghost use Rattle.bisync_run.specs.Agreement.{LeavesInSync, LeavesResyncInSync, WasApartBefore};
+ghost use Rattle.bisync_run.specs.Beginnings.{AnswersBeginningOf, IsWellBegunOf};
 ghost use Rattle.bisync_run.specs.Closing.{HasNoListings, but_fallen_or_lock};
 ghost use Rattle.bisync_run.specs.Counts.{counts, Later, Ends};
-ghost use Rattle.bisync_run.specs.EndKinds.{is_good, is_after_good, has_freed, is_unlocked, lets_fall, may_have_changed, may_tell_plan};
-ghost use Rattle.bisync_run.specs.Entering.{IsEntryEndWhere, IsHeldBack};
+ghost use Rattle.bisync_run.specs.EndKinds.{is_good, is_after_good, has_freed, is_before_lock, is_unlocked, lets_fall, may_have_changed, may_tell_plan};
+ghost use Rattle.bisync_run.specs.Entering.{AtMoment, HasSomeRules, IsEntryEnd, IsHeldBack};
 ghost use Rattle.bisync_run.specs.Grounds.{HasGrounds, IsTold};
 ghost use Rattle.bisync_run.specs.LockNew.{KeepsLockNew};
 ghost use Rattle.bisync_run.specs.Ordinary.{but_ordinary_or_fallen};
@@ -23,99 +28,13 @@ ghost use Rattle.bisync_run.specs.ResyncEnds.{IsResyncEnd};
 ghost use Rattle.bisync_run.specs.ResyncRuns.{AnswersRun, AreSetAsideBy, HasNoRefusal, IsResyncedBy, HasNumbers, LeavesBaseOf, LeavesTreesOf, TellsRun, LeavesLock, but_run};
 ghost use Rattle.bisync_run.specs.Sides.{compare_in};
 
-use crate::closing::{close, tell_end};
-use crate::entering::enter;
-use crate::held::held;
+use crate::closed_runs::run_to_close;
+use crate::closing::tell_end;
 use bisync_device::{Clock, Remote, Sink, Work};
 use bisync_opts::{CheckSync, Opts};
 use bisync_report::End;
 use bisync_tree::Limits;
 use std::alloc::Global;
-
-/// A run up to its last line.
-fn run_to_close<A: Remote, B: Remote, W: Work, C: Clock, S: Sink>(
-    alloc: Global,
-    opts: &Opts,
-    limits: &Limits,
-    one: &mut A,
-    two: &mut B,
-    work: &mut W,
-    clock: &mut C,
-    sink: &mut S,
-) -> End
-    requires { IsInRange opts.now }
-    ensures answers { (mode : Prefer) → opts.now.resync ≡ Some mode → IsTrue A.tells → IsTrue B.tells → IsTrue W.tells →
-        AnswersRun mode opts.now limits.now (W.state work.old).folder (by_side (A.state one.old) (B.state two.old)) C.tells (C.moment clock.old) result }
-    ensures accepted { (mode : Prefer) → opts.now.resync ≡ Some mode → IsTrue A.tells → IsTrue B.tells → IsTrue W.tells → is_after_good result ≡ true →
-        HasNoRefusal mode opts.now limits.now (W.state work.old).folder (by_side (A.state one.old) (B.state two.old)) C.tells (C.moment clock.old) }
-    ensures resynced { (mode : Prefer) → opts.now.resync ≡ Some mode → IsTrue A.tells → IsTrue B.tells → IsTrue W.tells → opts.now.dry_run ≡ false → is_after_good result ≡ true →
-        IsResyncedBy mode opts.now limits.now (W.state work.old).folder (by_side (A.state one.old) (B.state two.old)) (W.state work.new).folder (by_side (A.state one.new) (B.state two.new)) }
-    ensures set_aside { (mode : Prefer) → opts.now.resync ≡ Some mode → IsTrue W.tells → opts.now.dry_run ≡ false → is_after_good result ≡ true → AreSetAsideBy opts.now (W.state work.old).folder (W.state work.new).folder }
-    ensures only { (mode : Prefer) → opts.now.resync ≡ Some mode → IsResyncEnd opts.now result }
-    ensures numbers { (mode : Prefer) → opts.now.resync ≡ Some mode → IsTrue A.tells → IsTrue B.tells → IsTrue W.tells → is_good result ≡ true → HasNumbers mode opts.now (W.state work.old).folder (by_side (A.state one.old) (B.state two.old)) result }
-    ensures base { (mode : Prefer) → opts.now.resync ≡ Some mode → IsTrue A.tells → IsTrue B.tells → IsTrue W.tells →
-        LeavesBaseOf mode opts.now limits.now (W.state work.old).folder (by_side (A.state one.old) (B.state two.old)) (W.state work.new).folder (by_side (A.state one.new) (B.state two.new)) }
-    ensures trees { (mode : Prefer) → opts.now.resync ≡ Some mode → IsTrue A.tells → IsTrue B.tells → IsTrue W.tells →
-        LeavesTreesOf mode opts.now limits.now (W.state work.old).folder (by_side (A.state one.old) (B.state two.old)) C.tells (C.moment clock.old) (by_side (A.state one.new) (B.state two.new)) }
-    ensures run_answers { opts.now.resync ≡ None → IsTrue A.tells → IsTrue B.tells → IsTrue W.tells →
-        AnswersOrdinaryRun opts.now limits.now (W.state work.old).folder (by_side (A.state one.old) (B.state two.old)) C.tells (C.moment clock.old) result }
-    ensures unrefused { opts.now.resync ≡ None → IsTrue A.tells → IsTrue B.tells → IsTrue W.tells → is_after_good result ≡ true →
-        IsUnrefused opts.now limits.now (W.state work.old).folder (by_side (A.state one.old) (B.state two.old)) C.tells (C.moment clock.old) }
-    ensures done { opts.now.resync ≡ None → IsTrue A.tells → IsTrue B.tells → IsTrue W.tells → opts.now.dry_run ≡ false → opts.now.check_sync ≢ CheckSync.Only → is_after_good result ≡ true →
-        IsDoneBy opts.now limits.now (W.state work.old).folder (by_side (A.state one.old) (B.state two.old)) (W.state work.new).folder (by_side (A.state one.new) (B.state two.new)) }
-    ensures run_numbers { opts.now.resync ≡ None → IsTrue A.tells → IsTrue B.tells → IsTrue W.tells → is_good result ≡ true → HasOrdinaryNumbers opts.now limits.now (W.state work.old).folder (by_side (A.state one.old) (B.state two.old)) result }
-    ensures run_base { opts.now.resync ≡ None → IsTrue A.tells → IsTrue B.tells → IsTrue W.tells →
-        LeavesOrdinaryBaseOf opts.now limits.now (W.state work.old).folder (by_side (A.state one.old) (B.state two.old)) (W.state work.new).folder (by_side (A.state one.new) (B.state two.new)) }
-    ensures resilient_base { opts.now.resync ≡ None → IsTrue A.tells → IsTrue B.tells → IsTrue W.tells → (opts.now.resilient || opts.now.dry_run) ≡ true →
-        KeepsOrdinaryBaseOf opts.now limits.now (W.state work.old).folder (by_side (A.state one.old) (B.state two.old)) (W.state work.new).folder (by_side (A.state one.new) (B.state two.new)) }
-    ensures run_trees { opts.now.resync ≡ None → IsTrue A.tells → IsTrue B.tells → IsTrue W.tells →
-        LeavesOrdinaryTreesOf opts.now limits.now (W.state work.old).folder (by_side (A.state one.old) (B.state two.old)) C.tells (C.moment clock.old) (by_side (A.state one.new) (B.state two.new)) }
-    ensures run_rest { opts.now.resync ≡ None → IsTrue W.tells → but_ordinary_or_fallen (W.state work.new).folder ≡ but_ordinary_or_fallen (W.state work.old).folder }
-    ensures only_run { opts.now.resync ≡ None → IsOrdinaryEnd opts.now (compare_in opts.now.compare (A.state one.old).window (B.state two.old).window) result }
-    ensures only_one { opts.now.resync ≡ None → opts.now.check_sync ≡ CheckSync.Only → KeepsTree A.tells (A.state one.old) (A.state one.new) }
-    ensures only_two { opts.now.resync ≡ None → opts.now.check_sync ≡ CheckSync.Only → KeepsTree B.tells (B.state two.old) (B.state two.new) }
-    ensures only_base { opts.now.resync ≡ None → opts.now.check_sync ≡ CheckSync.Only → IsTrue W.tells → is_after_good result ≡ true → ChangesLock (W.state work.old).folder (W.state work.new).folder }
-    ensures blocked { IsTrue W.tells → IsTrue C.tells → KeepsBlocking (C.moment clock.old) (W.state work.old).folder (W.state work.new).folder }
-    ensures settled { IsTrue W.tells → IsSettled (W.state work.old).folder → IsSettled (W.state work.new).folder }
-    ensures rest { IsTrue W.tells → but_run (W.state work.new).folder ≡ but_run (W.state work.old).folder }
-    ensures untouched_one { may_have_changed result ≡ false → KeepsTree A.tells (A.state one.old) (A.state one.new) }
-    ensures untouched_two { may_have_changed result ≡ false → KeepsTree B.tells (B.state two.old) (B.state two.new) }
-    ensures kept { IsTrue W.tells → may_have_changed result ≡ false → lets_fall opts.now.resilient opts.now.dry_run result ≡ false → ChangesLock (W.state work.old).folder (W.state work.new).folder }
-    ensures only_fallen { IsTrue W.tells → may_have_changed result ≡ false → but_fallen_or_lock (W.state work.new).folder ≡ but_fallen_or_lock (W.state work.old).folder }
-    ensures fallen { IsTrue W.tells → lets_fall opts.now.resilient opts.now.dry_run result ≡ true → (Rose (W.state work.old).faults (W.state work.new).faults → ⊥) → HasNoListings (W.state work.new).folder }
-    ensures fell { IsTrue W.tells → may_have_changed result ≡ false → lets_fall opts.now.resilient opts.now.dry_run result ≡ true → (Rose (W.state work.old).faults (W.state work.new).faults → ⊥) → IsFallen (W.state work.old).folder (W.state work.new).folder }
-    ensures dry_one { opts.now.dry_run ≡ true → KeepsTree A.tells (A.state one.old) (A.state one.new) }
-    ensures dry_two { opts.now.dry_run ≡ true → KeepsTree B.tells (B.state two.old) (B.state two.new) }
-    ensures dry { IsTrue W.tells → opts.now.dry_run ≡ true → ChangesLock (W.state work.old).folder (W.state work.new).folder }
-    ensures lock { IsTrue W.tells → (Rose (W.state work.old).faults (W.state work.new).faults → ⊥) → LeavesLock result (W.state work.old).folder (W.state work.new).folder }
-    ensures freed { IsTrue W.tells → has_freed result ≡ true → (W.state work.new).folder.lock ≡ Absent }
-    ensures lock_new { IsTrue W.tells → (Rose (W.state work.old).faults (W.state work.new).faults → ⊥) → KeepsLockNew (W.state work.old).folder (W.state work.new).folder }
-    ensures no_digest { IsTrue W.tells → opts.now.filters ≡ None → (W.state work.new).folder.filters_md5 ≡ (W.state work.old).folder.filters_md5 }
-    ensures entry { IsTrue W.tells → is_unlocked result ≡ true → IsEntryEndWhere opts.now.filters (W.state work.old).folder C.tells (C.moment clock.old) result }
-    ensures held_back { IsTrue C.tells → IsHeldBack (C.moment clock.old) result }
-    ensures grounds { HasGrounds limits.now (by_side A.tells B.tells) result }
-    ensures told { IsTold (by_side A.tells B.tells) (by_side (A.state one.old) (B.state two.old)) result }
-    ensures windows { ((A.state one.new).window ≡ (A.state one.old).window) × ((B.state two.new).window ≡ (B.state two.old).window) }
-    ensures left1 { (A.state one.old).left ≡ None → (A.state one.new).left ≡ None }
-    ensures left2 { (B.state two.old).left ≡ None → (B.state two.new).left ≡ None }
-    ensures left { (W.state work.old).left ≡ None → (W.state work.new).left ≡ None }
-    ensures later { Later (counts (A.state one.old).faults (B.state two.old).faults (W.state work.old).faults (S.state sink.old).faults) (counts (A.state one.new).faults (B.state two.new).faults (W.state work.new).faults (S.state sink.new).faults) }
-    ensures causes { Ends (counts (A.state one.old).faults (B.state two.old).faults (W.state work.old).faults (S.state sink.old).faults) (counts (A.state one.new).faults (B.state two.new).faults (W.state work.new).faults (S.state sink.new).faults) result }
-    ensures quiet { IsTrue S.tells → (Rose (S.state sink.old).faults (S.state sink.new).faults → ⊥) → may_tell_plan result ≡ false → (S.state sink.new).bytes ≡ (S.state sink.old).bytes }
-    ensures lines { IsTrue S.tells → (lines : List ℕ) × ((S.state sink.new).bytes ≡ (S.state sink.old).bytes ++ lines) }
-    ensures built { result ≢ End.NotBuilt }
-    ensures report { (mode : Prefer) → opts.now.resync ≡ Some mode → IsTrue A.tells → IsTrue B.tells → IsTrue S.tells → IsTrue W.tells →
-        TellsRun mode opts.now (W.state work.old).folder (by_side (A.state one.old) (B.state two.old)) (by_side (A.state one.new) (B.state two.new)) (S.state sink.old).bytes [] (S.state sink.new).bytes result }
-    ensures run_report { opts.now.resync ≡ None → IsTrue A.tells → IsTrue B.tells → IsTrue W.tells → IsTrue S.tells →
-        TellsOrdinaryRun opts.now limits.now (W.state work.old).folder (by_side (A.state one.old) (B.state two.old)) (by_side (A.state one.new) (B.state two.new)) (S.state sink.old).bytes [] (S.state sink.new).bytes result }
-{
-    let entered = match enter(alloc, opts, work, clock) {
-        Ok(entered) => entered,
-        Err(end) => return end,
-    };
-    let ended = held(alloc, opts, limits, &entered, one, two, work, clock, sink);
-    close(opts, work, ended)
-}
 
 /// One run by these options.
 pub fn run<A: Remote, B: Remote, W: Work, C: Clock, S: Sink>(
@@ -149,8 +68,18 @@ pub fn run<A: Remote, B: Remote, W: Work, C: Clock, S: Sink>(
         AnswersOrdinaryRun opts.now limits.now (W.state work.old).folder (by_side (A.state one.old) (B.state two.old)) C.tells (C.moment clock.old) result }
     ensures unrefused { opts.now.resync ≡ None → IsTrue A.tells → IsTrue B.tells → IsTrue W.tells → is_after_good result ≡ true →
         IsUnrefused opts.now limits.now (W.state work.old).folder (by_side (A.state one.old) (B.state two.old)) C.tells (C.moment clock.old) }
+    ensures begins { opts.now.resync ≡ None → IsTrue W.tells →
+        AnswersBeginningOf opts.now limits.now (W.state work.old).folder (by_side (A.state one.old) (B.state two.old)) C.tells (C.moment clock.old) result }
+    ensures begun { opts.now.resync ≡ None → IsTrue W.tells → is_after_good result ≡ true →
+        IsWellBegunOf opts.now limits.now (W.state work.old).folder (by_side (A.state one.old) (B.state two.old)) C.tells (C.moment clock.old) }
     ensures done { opts.now.resync ≡ None → IsTrue A.tells → IsTrue B.tells → IsTrue W.tells → opts.now.dry_run ≡ false → opts.now.check_sync ≢ CheckSync.Only → is_after_good result ≡ true →
         IsDoneBy opts.now limits.now (W.state work.old).folder (by_side (A.state one.old) (B.state two.old)) (W.state work.new).folder (by_side (A.state one.new) (B.state two.new)) }
+    ensures in_sync { opts.now.resync ≡ None → IsTrue A.tells → IsTrue B.tells → IsTrue W.tells → opts.now.dry_run ≡ false → opts.now.check_sync ≢ CheckSync.Only → is_after_good result ≡ true →
+        LeavesInSync opts.now limits.now (W.state work.old).folder (by_side (A.state one.old) (B.state two.old)) (by_side (A.state one.new) (B.state two.new)) }
+    ensures was_apart { opts.now.resync ≡ None → IsTrue A.tells → IsTrue B.tells → IsTrue W.tells → (p : PathBytes) (first second : Option Entry) → result ≡ OutOfSync p first second →
+        WasApartBefore opts.now limits.now (W.state work.old).folder (by_side (A.state one.old) (B.state two.old)) }
+    ensures resync_in_sync { IsTrue A.tells → IsTrue B.tells → IsTrue W.tells → (mode : Prefer) → opts.now.resync ≡ Some mode → opts.now.dry_run ≡ false → is_after_good result ≡ true →
+        LeavesResyncInSync mode opts.now (W.state work.old).folder (by_side (A.state one.old) (B.state two.old)) (by_side (A.state one.new) (B.state two.new)) }
     ensures run_numbers { opts.now.resync ≡ None → IsTrue A.tells → IsTrue B.tells → IsTrue W.tells → is_good result ≡ true → HasOrdinaryNumbers opts.now limits.now (W.state work.old).folder (by_side (A.state one.old) (B.state two.old)) result }
     ensures run_base { opts.now.resync ≡ None → IsTrue A.tells → IsTrue B.tells → IsTrue W.tells →
         LeavesOrdinaryBaseOf opts.now limits.now (W.state work.old).folder (by_side (A.state one.old) (B.state two.old)) (W.state work.new).folder (by_side (A.state one.new) (B.state two.new)) }
@@ -169,7 +98,8 @@ pub fn run<A: Remote, B: Remote, W: Work, C: Clock, S: Sink>(
     ensures only_one { opts.now.resync ≡ None → opts.now.check_sync ≡ CheckSync.Only → KeepsTree A.tells (A.state one.old) (A.state one.new) }
     ensures only_two { opts.now.resync ≡ None → opts.now.check_sync ≡ CheckSync.Only → KeepsTree B.tells (B.state two.old) (B.state two.new) }
     ensures only_base { opts.now.resync ≡ None → opts.now.check_sync ≡ CheckSync.Only → IsTrue W.tells → is_after_good result ≡ true → ChangesLock (W.state work.old).folder (W.state work.new).folder }
-    ensures blocked { IsTrue W.tells → IsTrue C.tells → KeepsBlocking (C.moment clock.old) (W.state work.old).folder (W.state work.new).folder }
+    ensures entered { IsTrue W.tells → is_before_lock result ≡ false → AtMoment C.tells (C.moment clock.old) (λ now. IsFree now (W.state work.old).folder.lock) × HasSomeRules opts.now.filters (W.state work.old).folder }
+    ensures blocked { IsTrue W.tells → AtMoment C.tells (C.moment clock.old) (λ now. KeepsBlocking now (W.state work.old).folder (W.state work.new).folder) }
     ensures settled { IsTrue W.tells → IsSettled (W.state work.old).folder → IsSettled (W.state work.new).folder }
     ensures rest { IsTrue W.tells → but_run (W.state work.new).folder ≡ but_run (W.state work.old).folder }
     ensures untouched_one { may_have_changed result ≡ false → KeepsTree A.tells (A.state one.old) (A.state one.new) }
@@ -185,7 +115,7 @@ pub fn run<A: Remote, B: Remote, W: Work, C: Clock, S: Sink>(
     ensures freed { IsTrue W.tells → has_freed result ≡ true → (W.state work.new).folder.lock ≡ Absent }
     ensures lock_new { IsTrue W.tells → (Rose (W.state work.old).faults (W.state work.new).faults → ⊥) → KeepsLockNew (W.state work.old).folder (W.state work.new).folder }
     ensures no_digest { IsTrue W.tells → opts.now.filters ≡ None → (W.state work.new).folder.filters_md5 ≡ (W.state work.old).folder.filters_md5 }
-    ensures entry { IsTrue W.tells → is_unlocked result ≡ true → IsEntryEndWhere opts.now.filters (W.state work.old).folder C.tells (C.moment clock.old) result }
+    ensures entry { IsTrue W.tells → is_unlocked result ≡ true → IsEntryEnd opts.now.filters (W.state work.old).folder C.tells (C.moment clock.old) result }
     ensures held_back { IsTrue C.tells → IsHeldBack (C.moment clock.old) result }
     ensures grounds { HasGrounds limits.now (by_side A.tells B.tells) result }
     ensures told { IsTold (by_side A.tells B.tells) (by_side (A.state one.old) (B.state two.old)) result }
@@ -196,6 +126,7 @@ pub fn run<A: Remote, B: Remote, W: Work, C: Clock, S: Sink>(
     ensures later { Later (counts (A.state one.old).faults (B.state two.old).faults (W.state work.old).faults (S.state sink.old).faults) (counts (A.state one.new).faults (B.state two.new).faults (W.state work.new).faults (S.state sink.new).faults) }
     ensures causes { Ends (counts (A.state one.old).faults (B.state two.old).faults (W.state work.old).faults (S.state sink.old).faults) (counts (A.state one.new).faults (B.state two.new).faults (W.state work.new).faults (S.state sink.new).faults) result }
     ensures quiet { IsTrue S.tells → (Rose (S.state sink.old).faults (S.state sink.new).faults → ⊥) → may_tell_plan result ≡ false → (S.state sink.new).bytes ≡ (S.state sink.old).bytes ++ last_text result }
+    ensures only_quiet { opts.now.resync ≡ None → opts.now.check_sync ≡ CheckSync.Only → IsTrue S.tells → (Rose (S.state sink.old).faults (S.state sink.new).faults → ⊥) → (S.state sink.new).bytes ≡ (S.state sink.old).bytes ++ last_text result }
     ensures lines { IsTrue S.tells → (Rose (S.state sink.old).faults (S.state sink.new).faults → ⊥) → (lines : List ℕ) × ((S.state sink.new).bytes ≡ ((S.state sink.old).bytes ++ lines) ++ last_text result) }
     ensures built { result ≢ End.NotBuilt }
     ensures report { IsTrue A.tells → IsTrue B.tells → IsTrue S.tells → IsTrue W.tells → (mode : Prefer) → opts.now.resync ≡ Some mode →

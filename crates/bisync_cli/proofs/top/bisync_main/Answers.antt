@@ -1,6 +1,7 @@
-use Rattle.std.proofs.Common.{◌<◌, ◌^◌, arith}
+use Rattle.std.proofs.Common.{◌<◌, ◌^◌, arith, refl}
 use Rattle.bisync_tree.specs.declared.options.TheConstants.Limits.{REAL}
 use Rattle.bisync_model.specs.Trees.{by_side}
+use Rattle.bisync_run.proofs.BlockedFolders.{blocked_same}
 use Rattle.bisync_cli.specs.Tasks.{task_in}
 use Rattle.bisync_cli.proofs.Runs.{of_run, images_same, run_images_same, kept_images_same, safe_same, ends_run}
 use Rattle.bisync_cli.proofs.top.bisync_main.Goals as goal
@@ -60,6 +61,12 @@ returns-clause-lock g c = of_run _ _ _ _ c.in-Ok-Run.ensures.read.ok c.in-Ok-Run
 
 pub returns-clause-no_digest : goal.returns-clause-no_digest
 returns-clause-no_digest g c = of_run _ _ _ _ c.in-Ok-Run.ensures.read.ok c.in-Ok-Run.field-0-is c.run-end.ensures.no_digest
+
+pub returns-clause-entered : goal.returns-clause-entered
+returns-clause-entered g c = of_run _ _ _ _ c.in-Ok-Run.ensures.read.ok c.in-Ok-Run.field-0-is c.run-end.ensures.entered
+
+pub returns-clause-only_quiet : goal.returns-clause-only_quiet
+returns-clause-only_quiet g c = of_run _ _ _ _ c.in-Ok-Run.ensures.read.ok c.in-Ok-Run.field-0-is c.run-end.ensures.only_quiet
 
 pub returns-clause-entry : goal.returns-clause-entry
 returns-clause-entry g c = of_run _ _ _ _ c.in-Ok-Run.ensures.read.ok c.in-Ok-Run.field-0-is c.run-end.ensures.entry
@@ -135,3 +142,29 @@ returns-clause-only_base g c = of_run _ _ _ _ c.in-Ok-Run.ensures.read.ok c.in-O
 
 pub returns-clause-fell : goal.returns-clause-fell
 returns-clause-fell g c = of_run _ _ _ _ c.in-Ok-Run.ensures.read.ok c.in-Ok-Run.field-0-is c.run-end.ensures.fell
+
+pub returns-clause-begins : goal.returns-clause-begins
+returns-clause-begins g c = of_run _ _ _ _ c.in-Ok-Run.ensures.read.ok c.in-Ok-Run.field-0-is c.run-end.ensures.begins
+
+pub returns-clause-begun : goal.returns-clause-begun
+returns-clause-begun g c = of_run _ _ _ _ c.in-Ok-Run.ensures.read.ok c.in-Ok-Run.field-0-is c.run-end.ensures.begun
+
+pub returns-clause-in_sync : goal.returns-clause-in_sync
+returns-clause-in_sync g c = of_run _ _ _ _ c.in-Ok-Run.ensures.read.ok c.in-Ok-Run.field-0-is c.run-end.ensures.in_sync
+
+pub returns-clause-was_apart : goal.returns-clause-was_apart
+returns-clause-was_apart g c = of_run _ _ _ _ c.in-Ok-Run.ensures.read.ok c.in-Ok-Run.field-0-is c.run-end.ensures.was_apart
+
+pub returns-clause-resync_in_sync : goal.returns-clause-resync_in_sync
+returns-clause-resync_in_sync g c = of_run _ _ _ _ c.in-Ok-Run.ensures.read.ok c.in-Ok-Run.field-0-is c.run-end.ensures.resync_in_sync
+
+-- # A lock that blocks is left alone
+
+pub returns-in-Ok-NotBuilt-clause-blocked : goal.returns-in-Ok-NotBuilt-clause-blocked
+returns-in-Ok-NotBuilt-clause-blocked g c work = blocked_same (g.W.Work.state c.args.work.now).folder _ g.C.Clock.tells (g.C.Clock.moment c.args.clock.now) refl
+
+pub returns-in-Err-Usage-clause-blocked : goal.returns-in-Err-Usage-clause-blocked
+returns-in-Err-Usage-clause-blocked g c work = blocked_same (g.W.Work.state c.args.work.now).folder _ g.C.Clock.tells (g.C.Clock.moment c.args.clock.now) refl
+
+pub returns-in-Err-OutOfMemory-clause-blocked : goal.returns-in-Err-OutOfMemory-clause-blocked
+returns-in-Err-OutOfMemory-clause-blocked g c work = blocked_same (g.W.Work.state c.args.work.now).folder _ g.C.Clock.tells (g.C.Clock.moment c.args.clock.now) refl

@@ -1,17 +1,23 @@
 use Rattle.std.proofs.Common.{rules, FitsSigned, ◌∙◌}
 use Rattle.std.proofs.lemmas.Int.{to_z-of_z}
 use Rattle.std.specs.Int.{w64}
-use Rattle.bisync_run.proofs.BlockedFolders.{blocked_since}
+use Rattle.bisync_run.proofs.BlockedFolders.{blocked_same, blocked_since}
 use Rattle.bisync_run.proofs.entering.enter.Goals as goal
 
+pub returns-then-is_err-clause-blocked : goal.returns-then-is_err-clause-blocked
+returns-then-is_err-clause-blocked g c work = blocked_same (g.W.Work.state c.args.work.now).folder _ _ _ (c.attach.ensures.folder work)
+
+pub returns-in-Err-clause-blocked : goal.returns-in-Err-clause-blocked
+returns-in-Err-clause-blocked g c work = blocked_same (g.W.Work.state c.args.work.now).folder _ _ _ (c.in-Err.ensures.folder work ∙ c.attach.ensures.folder work)
+
 pub returns-in-Ok-Got-clause-blocked : goal.returns-in-Ok-Got-clause-blocked
-returns-in-Ok-Got-clause-blocked g c work clock =
+returns-in-Ok-Got-clause-blocked g c work =
     let now : FitsSigned w64 c.now-now.result = search rules in
-    blocked_since (g.W.Work.state c.args.work.now).folder _ _ _ _ (c.in-Ok.ensures.folder work ∙ c.attach.ensures.folder work) (to_z-of_z w64 _ now ∙ c.now-now.ensures.told clock)
+    blocked_since (g.W.Work.state c.args.work.now).folder _ _ _ _ _ (c.in-Ok.ensures.folder work ∙ c.attach.ensures.folder work) (λ clock. to_z-of_z w64 _ now ∙ c.now-now.ensures.told clock)
     (c.take_lock.ensures.blocking work)
 
 pub returns-in-Err-take_lock-clause-blocked : goal.returns-in-Err-take_lock-clause-blocked
-returns-in-Err-take_lock-clause-blocked g c work clock =
+returns-in-Err-take_lock-clause-blocked g c work =
     let now : FitsSigned w64 c.now-now.result = search rules in
-    blocked_since (g.W.Work.state c.args.work.now).folder _ _ _ _ (c.in-Ok.ensures.folder work ∙ c.attach.ensures.folder work) (to_z-of_z w64 _ now ∙ c.now-now.ensures.told clock)
+    blocked_since (g.W.Work.state c.args.work.now).folder _ _ _ _ _ (c.in-Ok.ensures.folder work ∙ c.attach.ensures.folder work) (λ clock. to_z-of_z w64 _ now ∙ c.now-now.ensures.told clock)
     (c.take_lock.ensures.blocking work)

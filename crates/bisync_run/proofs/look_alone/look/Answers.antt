@@ -5,6 +5,8 @@ use Rattle.bisync_run.specs.Grounds.{HasGrounds, IsTold}
 use Rattle.bisync_run.specs.OrdinaryEnds.{IsOrdinaryEnd}
 use Rattle.bisync_run.specs.ResyncRuns.{Matter}
 use Rattle.bisync_run.specs.Sides.{compare_in}
+use Rattle.bisync_run.proofs.BlockedFolders.{blocked_nowhere}
+use Rattle.bisync_run.proofs.LookBeginnings.{begins_freed, begun_freed}
 use Rattle.bisync_run.proofs.LooksBefore.{end_closed, freed_causes, freed_end, look_closed}
 use Rattle.bisync_run.proofs.OrdinaryCauses.{since}
 use Rattle.bisync_run.proofs.look_alone.look.Goals as goal
@@ -15,7 +17,7 @@ returns-clause-look g c one two work =
     let f = (g.W.Work.state c.args.work.now).folder in
     let f2 = (g.W.Work.state c.enter.new.work).folder in
     let m : Matter c.args.opts.now f start = record { rules = c.in-Ok.entered.rules; digest = c.in-Ok.entered.digest; are = c.in-Ok.ensures.rules work } in
-    look_closed c.args.opts.now c.args.limits.now f f2 (c.in-Ok.ensures.others work) start g.C.Clock.tells (g.C.Clock.moment c.args.clock.now) (λ clock. c.in-Ok.ensures.free work clock) m
+    look_closed c.args.opts.now c.args.limits.now f f2 (c.in-Ok.ensures.others work) start g.C.Clock.tells (g.C.Clock.moment c.args.clock.now) (c.in-Ok.ensures.free work) m
     c.look_held-looked.result c.unlock.result c.unlock.ensures.end (c.look_held-looked.ensures.look one two work)
 
 pub returns-clause-refusal : goal.returns-clause-refusal
@@ -24,7 +26,7 @@ returns-clause-refusal g c one two work =
     let f = (g.W.Work.state c.args.work.now).folder in
     let f2 = (g.W.Work.state c.enter.new.work).folder in
     let m : Matter c.args.opts.now f start = record { rules = c.in-Ok.entered.rules; digest = c.in-Ok.entered.digest; are = c.in-Ok.ensures.rules work } in
-    end_closed c.args.opts.now c.args.limits.now f f2 (c.in-Ok.ensures.others work) start g.C.Clock.tells (g.C.Clock.moment c.args.clock.now) (λ clock. c.in-Ok.ensures.free work clock) m
+    end_closed c.args.opts.now c.args.limits.now f f2 (c.in-Ok.ensures.others work) start g.C.Clock.tells (g.C.Clock.moment c.args.clock.now) (c.in-Ok.ensures.free work) m
     c.look_held-looked.result c.unlock.result c.unlock.ensures.end (c.look_held-looked.ensures.refusal one two work)
 
 pub returns-clause-kind : goal.returns-clause-kind
@@ -53,3 +55,24 @@ returns-clause-causes g c =
     let w3 = (g.W.Work.state c.unlock.new.work).faults in
     since (counts a b w 0) (counts a b w1 0) (counts a2 b2 w3 0) c.unlock.result (ap (λ (k : Counts). counts a b k.work 0) (c.in-Ok.ensures.causes.good refl))
     (freed_causes a b w1 a2 b2 w2 w3 c.look_held-looked.result c.unlock.result c.look_held-looked.ensures.causes c.unlock.ensures.later c.unlock.ensures.end c.unlock.ensures.counts)
+
+pub returns-clause-begins : goal.returns-clause-begins
+returns-clause-begins g c work =
+    let start = by_side (g.A.Remote.state c.args.one.now) (g.B.Remote.state c.args.two.now) in
+    let f = (g.W.Work.state c.args.work.now).folder in
+    let f2 = (g.W.Work.state c.enter.new.work).folder in
+    let m : Matter c.args.opts.now f start = record { rules = c.in-Ok.entered.rules; digest = c.in-Ok.entered.digest; are = c.in-Ok.ensures.rules work } in
+    begins_freed c.args.opts.now c.args.limits.now f f2 (c.in-Ok.ensures.others work) start g.C.Clock.tells (g.C.Clock.moment c.args.clock.now) (c.in-Ok.ensures.free work) m
+    c.look_held-looked.result c.unlock.result c.unlock.ensures.end (c.look_held-looked.ensures.begins work)
+
+pub returns-clause-begun : goal.returns-clause-begun
+returns-clause-begun g c work =
+    let start = by_side (g.A.Remote.state c.args.one.now) (g.B.Remote.state c.args.two.now) in
+    let f = (g.W.Work.state c.args.work.now).folder in
+    let f2 = (g.W.Work.state c.enter.new.work).folder in
+    let m : Matter c.args.opts.now f start = record { rules = c.in-Ok.entered.rules; digest = c.in-Ok.entered.digest; are = c.in-Ok.ensures.rules work } in
+    begun_freed c.args.opts.now c.args.limits.now f f2 (c.in-Ok.ensures.others work) start g.C.Clock.tells (g.C.Clock.moment c.args.clock.now) (c.in-Ok.ensures.free work) m
+    c.look_held-looked.result c.unlock.result c.unlock.ensures.end (c.look_held-looked.ensures.begun work)
+
+pub returns-clause-blocked : goal.returns-clause-blocked
+returns-clause-blocked g c work = blocked_nowhere (g.W.Work.state c.args.work.now).folder _ _ _ (c.in-Ok.ensures.free work)

@@ -3,7 +3,8 @@ use Rattle.bisync_device.specs.WorkFolder.{IsSettled}
 use Rattle.bisync_model.specs.Trees.{by_side}
 use Rattle.bisync_report.specs.declared.ends.End.TheVariants.{Done, DryRun, OutOfMemory}
 use Rattle.bisync_run.specs.Counts.{counts}
-use Rattle.bisync_run.specs.Sides.{compare_in}
+use Rattle.bisync_run.specs.Sides.{compare_in, sides_of}
+use Rattle.bisync_run.proofs.BeginningLaws.{begun_by, compared_begins, compared_begun, look_begins, start_begins, step_begins}
 use Rattle.bisync_run.proofs.CauseLaws.{fails}
 use Rattle.bisync_run.proofs.EndCases.{step_may_change}
 use Rattle.bisync_run.proofs.HeldLaws.{untouched, same_windows, are_within}
@@ -355,3 +356,74 @@ pub returns-clause-kind : goal.returns-clause-kind
 returns-clause-kind g c =
     step_kind c.args.opts.now (compare_in c.args.opts.now.compare (g.A.Remote.state c.args.one.now).window (g.B.Remote.state c.args.two.now).window)
     (not_only c.args.opts.now.check_sync (sym c.is_only.ensures ∙ c.if-is_only.false)) c.in-Err-carry_out_ordinary.end c.in-Err-carry_out_ordinary.ensures.end
+
+-- # What the work folder alone tells
+
+pub returns-in-Err-clause-begins : goal.returns-in-Err-clause-begins
+returns-in-Err-clause-begins g c work =
+    let f = (g.W.Work.state c.args.work.now).folder in
+    let s = sides_of c.args.opts.now.compare c.args.entered.now.rules (g.A.Remote.state c.args.one.now) (g.B.Remote.state c.args.two.now) in
+    start_begins c.args.opts.now c.args.limits.now f s c.args.entered.now.digest c.in-Err.end (c.in-Err.ensures.refusal work)
+
+pub returns-then-is_only-clause-begins : goal.returns-then-is_only-clause-begins
+returns-then-is_only-clause-begins g c work =
+    let f = (g.W.Work.state c.args.work.now).folder in
+    let s = sides_of c.args.opts.now.compare c.args.entered.now.rules (g.A.Remote.state c.args.one.now) (g.B.Remote.state c.args.two.now) in
+    compared_begins c.args.opts.now c.args.limits.now f s c.args.entered.now.digest c.in-Ok.started (c.in-Ok.ensures.starts work)
+    (only_is c.args.opts.now.check_sync (sym c.is_only.ensures ∙ c.if-is_only.true)) c.compare_base.result c.compare_base.ensures
+
+pub returns-then-is_only-clause-begun : goal.returns-then-is_only-clause-begun
+returns-then-is_only-clause-begun g c work =
+    let f = (g.W.Work.state c.args.work.now).folder in
+    let s = sides_of c.args.opts.now.compare c.args.entered.now.rules (g.A.Remote.state c.args.one.now) (g.B.Remote.state c.args.two.now) in
+    compared_begun c.args.opts.now c.args.limits.now f s c.args.entered.now.digest c.in-Ok.started (c.in-Ok.ensures.starts work)
+    (only_is c.args.opts.now.check_sync (sym c.is_only.ensures ∙ c.if-is_only.true)) c.compare_base.result c.compare_base.ensures
+
+pub returns-in-Err-look_ordinary-clause-begins : goal.returns-in-Err-look_ordinary-clause-begins
+returns-in-Err-look_ordinary-clause-begins g c work =
+    let f = (g.W.Work.state c.args.work.now).folder in
+    let s = sides_of c.args.opts.now.compare c.args.entered.now.rules (g.A.Remote.state c.args.one.now) (g.B.Remote.state c.args.two.now) in
+    let more = not_only c.args.opts.now.check_sync (sym c.is_only.ensures ∙ c.if-is_only.false) in
+    look_begins c.args.opts.now c.args.limits.now f s c.args.entered.now.digest c.in-Ok.started (c.in-Ok.ensures.starts work) more _ c.in-Err-look_ordinary.end c.in-Err-look_ordinary.ensures.kind c.in-Err-look_ordinary.ensures.prior
+
+pub returns-in-Err-plan_lines-clause-begins : goal.returns-in-Err-plan_lines-clause-begins
+returns-in-Err-plan_lines-clause-begins g c work =
+    let f = (g.W.Work.state c.args.work.now).folder in
+    let s = sides_of c.args.opts.now.compare c.args.entered.now.rules (g.A.Remote.state c.args.one.now) (g.B.Remote.state c.args.two.now) in
+    let more = not_only c.args.opts.now.check_sync (sym c.is_only.ensures ∙ c.if-is_only.false) in
+    begun_by c.args.opts.now c.args.limits.now f s c.args.entered.now.digest c.in-Ok.started (c.in-Ok.ensures.starts work) more c.in-Ok-look_ordinary.ensures.had_prior
+
+pub returns-then-opts-clause-begins : goal.returns-then-opts-clause-begins
+returns-then-opts-clause-begins g c work =
+    let f = (g.W.Work.state c.args.work.now).folder in
+    let s = sides_of c.args.opts.now.compare c.args.entered.now.rules (g.A.Remote.state c.args.one.now) (g.B.Remote.state c.args.two.now) in
+    let more = not_only c.args.opts.now.check_sync (sym c.is_only.ensures ∙ c.if-is_only.false) in
+    begun_by c.args.opts.now c.args.limits.now f s c.args.entered.now.digest c.in-Ok.started (c.in-Ok.ensures.starts work) more c.in-Ok-look_ordinary.ensures.had_prior
+
+pub returns-then-opts-clause-begun : goal.returns-then-opts-clause-begun
+returns-then-opts-clause-begun g c work =
+    let f = (g.W.Work.state c.args.work.now).folder in
+    let s = sides_of c.args.opts.now.compare c.args.entered.now.rules (g.A.Remote.state c.args.one.now) (g.B.Remote.state c.args.two.now) in
+    let more = not_only c.args.opts.now.check_sync (sym c.is_only.ensures ∙ c.if-is_only.false) in
+    inl (begun_by c.args.opts.now c.args.limits.now f s c.args.entered.now.digest c.in-Ok.started (c.in-Ok.ensures.starts work) more c.in-Ok-look_ordinary.ensures.had_prior)
+
+pub returns-in-Ok-carry_out_ordinary-clause-begins : goal.returns-in-Ok-carry_out_ordinary-clause-begins
+returns-in-Ok-carry_out_ordinary-clause-begins g c work =
+    let f = (g.W.Work.state c.args.work.now).folder in
+    let s = sides_of c.args.opts.now.compare c.args.entered.now.rules (g.A.Remote.state c.args.one.now) (g.B.Remote.state c.args.two.now) in
+    let more = not_only c.args.opts.now.check_sync (sym c.is_only.ensures ∙ c.if-is_only.false) in
+    begun_by c.args.opts.now c.args.limits.now f s c.args.entered.now.digest c.in-Ok.started (c.in-Ok.ensures.starts work) more c.in-Ok-look_ordinary.ensures.had_prior
+
+pub returns-in-Ok-carry_out_ordinary-clause-begun : goal.returns-in-Ok-carry_out_ordinary-clause-begun
+returns-in-Ok-carry_out_ordinary-clause-begun g c work =
+    let f = (g.W.Work.state c.args.work.now).folder in
+    let s = sides_of c.args.opts.now.compare c.args.entered.now.rules (g.A.Remote.state c.args.one.now) (g.B.Remote.state c.args.two.now) in
+    let more = not_only c.args.opts.now.check_sync (sym c.is_only.ensures ∙ c.if-is_only.false) in
+    inl (begun_by c.args.opts.now c.args.limits.now f s c.args.entered.now.digest c.in-Ok.started (c.in-Ok.ensures.starts work) more c.in-Ok-look_ordinary.ensures.had_prior)
+
+pub returns-clause-begins : goal.returns-clause-begins
+returns-clause-begins g c work =
+    let f = (g.W.Work.state c.args.work.now).folder in
+    let s = sides_of c.args.opts.now.compare c.args.entered.now.rules (g.A.Remote.state c.args.one.now) (g.B.Remote.state c.args.two.now) in
+    let more = not_only c.args.opts.now.check_sync (sym c.is_only.ensures ∙ c.if-is_only.false) in
+    step_begins c.args.opts.now c.args.limits.now f s c.args.entered.now.digest (begun_by c.args.opts.now c.args.limits.now f s c.args.entered.now.digest c.in-Ok.started (c.in-Ok.ensures.starts work) more c.in-Ok-look_ordinary.ensures.had_prior) c.in-Err-carry_out_ordinary.end c.in-Err-carry_out_ordinary.ensures.end

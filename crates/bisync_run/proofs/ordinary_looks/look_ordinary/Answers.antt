@@ -1,6 +1,8 @@
 use Rattle.std.proofs.Common.{◌∙◌}
 use Rattle.bisync_filter.specs.Passing.{rules_pass}
+use Rattle.bisync_model.specs.Trees.{by_side}
 use Rattle.bisync_run.specs.Sides.{sides_of}
+use Rattle.bisync_run.proofs.BeginningLaws.{guarded_after, not_both_after, prior_answer, unplanned_after}
 use Rattle.bisync_run.proofs.CauseLaws.{follows, fails, nothing_failed, not_planned}
 use Rattle.bisync_run.proofs.GuardEnds.{guard_kind, guard_caused}
 use Rattle.bisync_run.proofs.PreparedOrdinary.{not_both_seen, guard_answers, no_plan_answers, look_of_sides}
@@ -126,3 +128,27 @@ returns-in-Ok-made-clause-seen g c =
     planned_view c.args.opts.now c.args.rules.now _ _ c.window.result c.window-2.result view c.run_compare-compare.result both.one.listing both.two.listing c.in-Ok-made.plan
     c.requires.range.compare c.run_compare-compare.ensures (c.window.ensures ∙ seen.one.window) (c.window-2.ensures ∙ seen.two.window)
     narrowed complete made.now seen.is_seen1.digests seen.is_seen2.digests c.in-Ok-made.ensures.plan
+
+-- # The passing parts of the base
+
+pub returns-in-Err-clause-prior : goal.returns-in-Err-clause-prior
+returns-in-Err-clause-prior g c = prior_answer (rules_pass c.args.rules.now) c.args.started.one c.args.started.two c.in-Err.end c.in-Err.ensures.refusal
+
+pub returns-in-Err-look_at_both-clause-prior : goal.returns-in-Err-look_at_both-clause-prior
+returns-in-Err-look_at_both-clause-prior g c =
+    not_both_after (rules_pass c.args.rules.now) c.args.started.one c.args.started.two (c.in-Ok.ensures.prior.some1, c.in-Ok.ensures.prior.some2)
+    (by_side g.A.Remote.tells g.B.Remote.tells) (g.A.Remote.state c.args.one.now).tree (g.B.Remote.state c.args.two.now).tree c.run_compare-compare.result (rules_pass c.args.rules.now) c.args.limits.now
+    c.in-Err-look_at_both.end c.in-Err-look_at_both.ensures.refusal
+
+pub returns-in-Err-check_guards-clause-prior : goal.returns-in-Err-check_guards-clause-prior
+returns-in-Err-check_guards-clause-prior g c =
+    guarded_after (rules_pass c.args.rules.now) c.args.started.one c.args.started.two (c.in-Ok.ensures.prior.some1, c.in-Ok.ensures.prior.some2)
+    _ c.in-Err-check_guards.end c.in-Err-check_guards.ensures.refusal
+
+pub returns-in-Ok-made-clause-had_prior : goal.returns-in-Ok-made-clause-had_prior
+returns-in-Ok-made-clause-had_prior g c = (c.in-Ok.ensures.prior.some1, c.in-Ok.ensures.prior.some2)
+
+pub returns-in-Err-made-clause-prior : goal.returns-in-Err-made-clause-prior
+returns-in-Err-made-clause-prior g c =
+    unplanned_after (rules_pass c.args.rules.now) c.args.started.one c.args.started.two (c.in-Ok.ensures.prior.some1, c.in-Ok.ensures.prior.some2)
+    c.in-Err-made.fault c.unplanned.result c.unplanned.ensures

@@ -1,14 +1,17 @@
 use Rattle.std.proofs.Common.{◌≡◌, ◌<◌, ◌^◌, ◌∙◌, ◌++◌, ap, arith, sym, subst, true, List, ℕ}
+use Rattle.bisync_device.specs.Sink.{SinkState}
 use Rattle.bisync_model.specs.Trees.{by_side}
 use Rattle.bisync_report.specs.LastLine.{last_text}
 use Rattle.bisync_report.specs.declared.ends.End.{End}
 use Rattle.bisync_run.specs.EndKinds.{is_good, is_unlocked, lets_fall, may_have_changed, may_tell_plan}
-use Rattle.bisync_run.specs.Entering.{IsEntryEndWhere}
-use Rattle.bisync_run.specs.OrdinaryRuns.{HasOrdinaryNumbers, TellsOrdinaryRun}
+use Rattle.bisync_run.specs.Entering.{IsEntryEnd}
+use Rattle.bisync_run.specs.OrdinaryRuns.{AnswersOrdinaryRun, HasOrdinaryNumbers, TellsOrdinaryRun}
 use Rattle.bisync_run.specs.ResyncRuns.{HasNumbers, TellsRun}
+use Rattle.bisync_run.proofs.BeginningLaws.{begins_told}
 use Rattle.bisync_run.proofs.BuiltEnds.{told_built}
 use Rattle.bisync_run.proofs.ClosedEnds.{tells_last}
-use Rattle.bisync_run.proofs.ClosedKinds.{no_rise_first, own_told, early_told, fell_told, freed_told, unlocked_told}
+use Rattle.bisync_run.proofs.ClosedKinds.{no_rise_first, own_told, early_told, fell_told, freed_told, held_told, unlocked_told}
+use Rattle.bisync_run.proofs.InSyncRuns.{in_sync_after, resync_in_sync_after, was_apart}
 use Rattle.bisync_run.proofs.EndLaws.{no_rise_since}
 use Rattle.bisync_run.proofs.OrdinaryTold.{ordinary_told, resilient_images, run_answers_told, run_images, run_tells_last}
 use Rattle.bisync_run.proofs.SafeRuns.{keeps_safe}
@@ -104,8 +107,11 @@ returns-clause-no_digest g c work none = c.run_to_close-end.ensures.no_digest wo
 pub returns-clause-entry : goal.returns-clause-entry
 returns-clause-entry g c work un =
     let told = unlocked_told c.run_to_close-end.result c.tell_end.result c.tell_end.ensures.end un in
-    subst (λ (e : End). IsEntryEndWhere c.args.opts.now.filters (g.W.Work.state c.args.work.now).folder g.C.Clock.tells (g.C.Clock.moment c.args.clock.now) e) (sym told)
+    subst (λ (e : End). IsEntryEnd c.args.opts.now.filters (g.W.Work.state c.args.work.now).folder g.C.Clock.tells (g.C.Clock.moment c.args.clock.now) e) (sym told)
     (c.run_to_close-end.ensures.entry work (ap is_unlocked (sym told) ∙ un))
+
+pub returns-clause-entered : goal.returns-clause-entered
+returns-clause-entered g c work later = c.run_to_close-end.ensures.entered work (held_told c.run_to_close-end.result c.tell_end.result c.tell_end.ensures.end later)
 
 pub returns-clause-told : goal.returns-clause-told
 returns-clause-told g c = last_told (by_side g.A.Remote.tells g.B.Remote.tells) (by_side (g.A.Remote.state c.args.one.now) (g.B.Remote.state c.args.two.now)) c.run_to_close-end.result c.tell_end.result c.tell_end.ensures.end c.run_to_close-end.ensures.told
@@ -120,6 +126,17 @@ returns-clause-quiet g c sink never quiet =
     let early = no_rise_first before.faults mid.faults after.faults never c.tell_end.ensures.later in
     c.tell_end.ensures.bytes sink still
     ∙ ap (λ (l : List ℕ). l ++ last_text c.run_to_close-end.result) (c.run_to_close-end.ensures.quiet sink early (ap may_tell_plan (sym told) ∙ quiet))
+    ∙ ap (λ (e : End). before.bytes ++ last_text e) (sym told)
+
+pub returns-clause-only_quiet : goal.returns-clause-only_quiet
+returns-clause-only_quiet g c none only sink never =
+    let before = g.S.Sink.state c.args.sink.now in
+    let mid = g.S.Sink.state c.run_to_close-end.new.sink in
+    let after = g.S.Sink.state c.tell_end.new.sink in
+    let still = no_rise_since before.faults mid.faults after.faults never c.run_to_close-end.ensures.later.sink in
+    let told = told_same c.run_to_close-end.result c.tell_end.result mid.faults after.faults c.tell_end.ensures.end c.tell_end.ensures.failed still in
+    c.tell_end.ensures.bytes sink still
+    ∙ ap (λ (s : SinkState). s.bytes ++ last_text c.run_to_close-end.result) (c.run_to_close-end.ensures.only_sink none only)
     ∙ ap (λ (e : End). before.bytes ++ last_text e) (sym told)
 
 pub returns-clause-lines : goal.returns-clause-lines
@@ -245,3 +262,38 @@ pub returns-clause-fell : goal.returns-clause-fell
 returns-clause-fell g c work early fell never =
     let told = fell_told c.args.opts.now.resilient c.args.opts.now.dry_run c.run_to_close-end.result c.tell_end.result c.tell_end.ensures.end fell in
     c.run_to_close-end.ensures.fell work (ap may_have_changed (sym told) ∙ early) (ap (lets_fall c.args.opts.now.resilient c.args.opts.now.dry_run) (sym told) ∙ fell) never
+
+-- # What the work folder alone tells
+
+pub returns-clause-begins : goal.returns-clause-begins
+returns-clause-begins g c none work =
+    let f = (g.W.Work.state c.args.work.now).folder in
+    let start = by_side (g.A.Remote.state c.args.one.now) (g.B.Remote.state c.args.two.now) in
+    begins_told c.args.opts.now c.args.limits.now f start g.C.Clock.tells (g.C.Clock.moment c.args.clock.now) c.run_to_close-end.result c.tell_end.result
+    (c.run_to_close-end.ensures.begins none work) (c.run_to_close-end.ensures.begun none work) c.tell_end.ensures.end
+
+pub returns-clause-begun : goal.returns-clause-begun
+returns-clause-begun g c none work good =
+    c.run_to_close-end.ensures.begun none work (after_good_told c.run_to_close-end.result c.tell_end.result c.tell_end.ensures.end good)
+
+-- # Where both sides agree
+
+pub returns-clause-in_sync : goal.returns-clause-in_sync
+returns-clause-in_sync g c none one two work dry only good =
+    in_sync_after c.args.opts.now c.args.limits.now _ _ _ _
+    (c.run_to_close-end.ensures.done none one two work dry only (after_good_told c.run_to_close-end.result c.tell_end.result c.tell_end.ensures.end good))
+
+pub returns-clause-was_apart : goal.returns-clause-was_apart
+returns-clause-was_apart g c none one two work p first second is =
+    let f = (g.W.Work.state c.args.work.now).folder in
+    let start = by_side (g.A.Remote.state c.args.one.now) (g.B.Remote.state c.args.two.now) in
+    let moment = g.C.Clock.moment c.args.clock.now in
+    was_apart c.args.opts.now c.args.limits.now f start g.C.Clock.tells moment p first second
+    (subst (AnswersOrdinaryRun c.args.opts.now c.args.limits.now f start g.C.Clock.tells moment) is
+    (run_answers_told c.args.opts.now c.args.limits.now f start g.C.Clock.tells moment c.run_to_close-end.result c.tell_end.result
+    (c.run_to_close-end.ensures.run_answers none one two work) (c.run_to_close-end.ensures.unrefused none one two work) c.tell_end.ensures.end))
+
+pub returns-clause-resync_in_sync : goal.returns-clause-resync_in_sync
+returns-clause-resync_in_sync g c one two work mode is dry good =
+    resync_in_sync_after mode c.args.opts.now c.args.limits.now _ _ _ _
+    (c.run_to_close-end.ensures.resynced mode is one two work dry (after_good_told c.run_to_close-end.result c.tell_end.result c.tell_end.ensures.end good))

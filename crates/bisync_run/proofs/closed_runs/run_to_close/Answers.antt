@@ -1,4 +1,4 @@
-use Rattle.std.proofs.Common.{[], ap, inl, inr, subst, sym, ⊎_elim}
+use Rattle.std.proofs.Common.{◌∙◌, [], ap, inl, inr, subst, sym, ⊎_elim, ℤ}
 use Rattle.std.proofs.lemmas.List.{append-nil}
 use Rattle.bisync_device.specs.WorkFolder.{WorkFolder}
 use Rattle.bisync_model.specs.Trees.{by_side}
@@ -8,13 +8,15 @@ use Rattle.bisync_run.specs.HeldResyncs.{IsGoodEndOf}
 use Rattle.bisync_run.specs.Ordinary.{IsGoodOrdinaryEnd}
 use Rattle.bisync_run.specs.ResyncRuns.{Matter}
 use Rattle.bisync_run.specs.Sides.{sides_of}
+use Rattle.bisync_run.proofs.BlockedFolders.{blocked_nowhere}
+use Rattle.bisync_run.proofs.BeginningLaws.{begins_before, begins_closed, well_before}
 use Rattle.bisync_run.proofs.AnswersBefore.{none_before, answers_before}
 use Rattle.bisync_run.proofs.Closed.{base_closed, base_unlocked, done_closed, done_unlocked}
 use Rattle.bisync_run.proofs.ClosedEnds.{on_ok, falls_ok, falls_dry, changes_closed, early_closed, answers_closed, numbers_closed, tells_closed}
 use Rattle.bisync_run.proofs.ClosedKinds.{no_rise_last, no_rise_mid, falls_closed, fell_closed, quiet_closed, own_closed, locked_closed, freed_was_good, fallen_same, fallen_closed, lock_new_closed, no_digest_closed, aside_closed}
 use Rattle.bisync_run.proofs.CoursesBefore.{run_answers_before, unrefused_before}
 use Rattle.bisync_run.proofs.DoneSteps.{untouched_same}
-use Rattle.bisync_run.proofs.EndCases.{good_is_after_good}
+use Rattle.bisync_run.proofs.EndCases.{false_true, good_is_after_good}
 use Rattle.bisync_run.proofs.EndKindLaws.{unlocked_is_own, unlocked_not_after_good, unlocked_fell, freed_is_after_good}
 use Rattle.bisync_run.proofs.LockNewLaws.{lock_new_twice, lock_new_same}
 use Rattle.bisync_run.proofs.LockedFolders.{base_past}
@@ -22,10 +24,9 @@ use Rattle.bisync_run.proofs.OrdinaryClosed.{base_kept, falls_resilient, rest_cl
 use Rattle.bisync_run.proofs.OrdinaryEndsClosed.{good_before, ordinary_closed, run_answers_closed, run_tells_closed, tells_unlocked, unlocked_is_ordinary}
 use Rattle.bisync_run.proofs.RunEnds.{after_good_was_ok}
 use Rattle.bisync_run.proofs.ToldGrounds.{unlocked_told, closed_told}
-use Rattle.bisync_work.proofs.LockLaws.{free_or_blocking}
 use Rattle.bisync_run.proofs.CloseLaws.{fell_before}
 use Rattle.bisync_run.proofs.BuiltEnds.{unlocked_built, closed_built}
-use Rattle.bisync_run.proofs.runs.run_to_close.Goals as goal
+use Rattle.bisync_run.proofs.closed_runs.run_to_close.Goals as goal
 
 pub returns-in-Err-clause-base : goal.returns-in-Err-clause-base
 returns-in-Err-clause-base g c mode mode_is one two work base is =
@@ -87,7 +88,7 @@ returns-clause-answers g c mode mode_is one two work =
     let changes = c.in-Ok.ensures.others work in
     let m : Matter c.args.opts.now f (by_side a b) = record { rules = c.in-Ok.entered.rules; digest = c.in-Ok.entered.digest; are = c.in-Ok.ensures.rules work } in
     inr (
-      λ clock. c.in-Ok.ensures.free work clock,
+      c.in-Ok.ensures.free work,
       (
         m,
         answers_before mode c.args.limits.now f f2 changes s c.close.result
@@ -98,32 +99,26 @@ returns-clause-answers g c mode mode_is one two work =
 
 pub returns-clause-accepted : goal.returns-clause-accepted
 returns-clause-accepted g c mode mode_is one two work good =
-    let a = g.A.Remote.state c.args.one.now in
-    let b = g.B.Remote.state c.args.two.now in
-    let s = sides_of c.args.opts.now.compare c.in-Ok.entered.rules a b in
     let f = (g.W.Work.state c.args.work.now).folder in
     let f2 = (g.W.Work.state c.enter.new.work).folder in
     let changes = c.in-Ok.ensures.others work in
-    let m : Matter c.args.opts.now f (by_side a b) = record { rules = c.in-Ok.entered.rules; digest = c.in-Ok.entered.digest; are = c.in-Ok.ensures.rules work } in
+    let m : Matter c.args.opts.now f _ = record { rules = c.in-Ok.entered.rules; digest = c.in-Ok.entered.digest; are = c.in-Ok.ensures.rules work } in
     let ok = after_good_was_ok _ _ c.held-ended.result c.close.result c.held-ended.ensures.causes.fault c.close.ensures.end good in
-    (λ clock. c.in-Ok.ensures.free work clock, (m, none_before mode c.args.limits.now f f2 changes s (on_ok c.held-ended.result ok (c.held-ended.ensures.accepted mode mode_is one two work))))
+    (c.in-Ok.ensures.free work, (m, none_before mode c.args.limits.now f f2 changes _ (on_ok c.held-ended.result ok (c.held-ended.ensures.accepted mode mode_is one two work))))
 
 pub returns-clause-resynced : goal.returns-clause-resynced
 returns-clause-resynced g c mode mode_is one two work dry good =
-    let a = g.A.Remote.state c.args.one.now in
-    let b = g.B.Remote.state c.args.two.now in
-    let s = sides_of c.args.opts.now.compare c.in-Ok.entered.rules a b in
     let f = (g.W.Work.state c.args.work.now).folder in
     let f2 = (g.W.Work.state c.enter.new.work).folder in
     let changes = c.in-Ok.ensures.others work in
-    let m : Matter c.args.opts.now f (by_side a b) = record { rules = c.in-Ok.entered.rules; digest = c.in-Ok.entered.digest; are = c.in-Ok.ensures.rules work } in
+    let m : Matter c.args.opts.now f _ = record { rules = c.in-Ok.entered.rules; digest = c.in-Ok.entered.digest; are = c.in-Ok.ensures.rules work } in
     let mid = (g.W.Work.state c.held-ended.new.work).folder in
     let h = (g.W.Work.state c.close.new.work).folder in
     let now = by_side (g.A.Remote.state c.held-ended.new.one) (g.B.Remote.state c.held-ended.new.two) in
     let ok = after_good_was_ok _ _ c.held-ended.result c.close.result c.held-ended.ensures.causes.fault c.close.ensures.end good in (
       m,
-      done_unlocked mode c.args.limits.now s (by_side a b) now c.in-Ok.entered.digest f f2 h changes
-          (done_closed mode c.args.limits.now s (by_side a b) now c.in-Ok.entered.digest f2 mid h
+      done_unlocked mode c.args.limits.now _ _ now c.in-Ok.entered.digest f f2 h changes
+          (done_closed mode c.args.limits.now _ _ now c.in-Ok.entered.digest f2 mid h
           (on_ok c.held-ended.result ok (c.held-ended.ensures.resynced mode mode_is one two work dry))
           (c.close.ensures.kept work (falls_ok c.args.opts.now.resilient c.args.opts.now.dry_run c.held-ended.result ok))),
     )
@@ -134,37 +129,29 @@ returns-clause-numbers g c mode mode_is one two work good =
     let b = g.B.Remote.state c.args.two.now in
     let s = sides_of c.args.opts.now.compare c.in-Ok.entered.rules a b in
     let f = (g.W.Work.state c.args.work.now).folder in
-    let f2 = (g.W.Work.state c.enter.new.work).folder in
-    let changes = c.in-Ok.ensures.others work in
     let m : Matter c.args.opts.now f (by_side a b) = record { rules = c.in-Ok.entered.rules; digest = c.in-Ok.entered.digest; are = c.in-Ok.ensures.rules work } in
     (m, numbers_closed (IsGoodEndOf c.args.opts.now.dry_run mode s) _ _ c.held-ended.result c.close.result c.held-ended.ensures.causes.fault c.close.ensures.end (c.held-ended.ensures.good mode mode_is one two) good)
 
 pub returns-clause-base : goal.returns-clause-base
 returns-clause-base g c mode mode_is one two work base is =
-    let a = g.A.Remote.state c.args.one.now in
-    let b = g.B.Remote.state c.args.two.now in
-    let s = sides_of c.args.opts.now.compare c.in-Ok.entered.rules a b in
     let f = (g.W.Work.state c.args.work.now).folder in
     let f2 = (g.W.Work.state c.enter.new.work).folder in
     let changes = c.in-Ok.ensures.others work in
-    let m : Matter c.args.opts.now f (by_side a b) = record { rules = c.in-Ok.entered.rules; digest = c.in-Ok.entered.digest; are = c.in-Ok.ensures.rules work } in
+    let m : Matter c.args.opts.now f _ = record { rules = c.in-Ok.entered.rules; digest = c.in-Ok.entered.digest; are = c.in-Ok.ensures.rules work } in
     let mid = (g.W.Work.state c.held-ended.new.work).folder in
     let h = (g.W.Work.state c.close.new.work).folder in
     let now = by_side (g.A.Remote.state c.held-ended.new.one) (g.B.Remote.state c.held-ended.new.two) in
     ⊎_elim inl (λ other. inr (⊎_elim inl (λ made. inr (m, made)) other))
-    (base_unlocked mode c.args.limits.now s (by_side a b) now f f2 h changes
-    (base_closed mode c.args.limits.now s (by_side a b) now f2 mid h (c.held-ended.ensures.base mode mode_is one two work) (c.close.ensures.closes work)) base is)
+    (base_unlocked mode c.args.limits.now _ _ now f f2 h changes
+    (base_closed mode c.args.limits.now _ _ now f2 mid h (c.held-ended.ensures.base mode mode_is one two work) (c.close.ensures.closes work)) base is)
 
 pub returns-clause-trees : goal.returns-clause-trees
 returns-clause-trees g c mode mode_is one two work =
-    let a = g.A.Remote.state c.args.one.now in
-    let b = g.B.Remote.state c.args.two.now in
-    let s = sides_of c.args.opts.now.compare c.in-Ok.entered.rules a b in
     let f = (g.W.Work.state c.args.work.now).folder in
     let f2 = (g.W.Work.state c.enter.new.work).folder in
     let changes = c.in-Ok.ensures.others work in
-    let m : Matter c.args.opts.now f (by_side a b) = record { rules = c.in-Ok.entered.rules; digest = c.in-Ok.entered.digest; are = c.in-Ok.ensures.rules work } in
-    ⊎_elim inl (λ some. inr (λ clock. c.in-Ok.ensures.free work clock, (m, inr (none_before mode c.args.limits.now f f2 changes s some.0, some.1))))
+    let m : Matter c.args.opts.now f _ = record { rules = c.in-Ok.entered.rules; digest = c.in-Ok.entered.digest; are = c.in-Ok.ensures.rules work } in
+    ⊎_elim inl (λ some. inr (c.in-Ok.ensures.free work, (m, inr (none_before mode c.args.limits.now f f2 changes _ some.0, some.1))))
     (c.held-ended.ensures.trees mode mode_is one two work)
 
 pub returns-clause-untouched_one : goal.returns-clause-untouched_one
@@ -262,10 +249,7 @@ pub returns-clause-report : goal.returns-clause-report
 returns-clause-report g c mode mode_is one two sink work =
     let a = g.A.Remote.state c.args.one.now in
     let b = g.B.Remote.state c.args.two.now in
-    let s = sides_of c.args.opts.now.compare c.in-Ok.entered.rules a b in
     let f = (g.W.Work.state c.args.work.now).folder in
-    let f2 = (g.W.Work.state c.enter.new.work).folder in
-    let changes = c.in-Ok.ensures.others work in
     let m : Matter c.args.opts.now f (by_side a b) = record { rules = c.in-Ok.entered.rules; digest = c.in-Ok.entered.digest; are = c.in-Ok.ensures.rules work } in
     tells_closed mode c.args.opts.now f (by_side a b) (by_side (g.A.Remote.state c.held-ended.new.one) (g.B.Remote.state c.held-ended.new.two)) m
     (g.S.Sink.state c.args.sink.now).bytes (g.S.Sink.state c.held-ended.new.sink).bytes _ _ c.held-ended.result c.close.result
@@ -318,7 +302,7 @@ returns-clause-run_answers g c none one two work =
     let s = sides_of c.args.opts.now.compare c.in-Ok.entered.rules a b in
     let f2 = (g.W.Work.state c.enter.new.work).folder in
     inr (
-      λ clock. c.in-Ok.ensures.free work clock,
+      c.in-Ok.ensures.free work,
       (
         m,
         run_answers_before c.args.opts.now c.args.limits.now f f2 (c.in-Ok.ensures.others work) s c.in-Ok.entered.digest c.close.result
@@ -332,7 +316,7 @@ returns-clause-unrefused g c none one two work good =
     let f = (g.W.Work.state c.args.work.now).folder in
     let m : Matter c.args.opts.now f _ = record { rules = c.in-Ok.entered.rules; digest = c.in-Ok.entered.digest; are = c.in-Ok.ensures.rules work } in
     let ok = after_good_was_ok _ _ c.held-ended.result c.close.result c.held-ended.ensures.causes.fault c.close.ensures.end good in (
-      λ clock. c.in-Ok.ensures.free work clock,
+      c.in-Ok.ensures.free work,
       (m, unrefused_before c.args.opts.now c.args.limits.now f _ (c.in-Ok.ensures.others work) _ _ (on_ok c.held-ended.result ok (c.held-ended.ensures.unrefused none one two work))),
     )
 
@@ -382,7 +366,7 @@ returns-clause-run_trees g c none one two work =
     let f = (g.W.Work.state c.args.work.now).folder in
     let m : Matter c.args.opts.now f _ = record { rules = c.in-Ok.entered.rules; digest = c.in-Ok.entered.digest; are = c.in-Ok.ensures.rules work } in
     ⊎_elim inl
-    (λ way. inr (λ clock. c.in-Ok.ensures.free work clock, (m, way_before c.args.opts.now c.args.limits.now _ c.in-Ok.entered.digest _ f _ (c.in-Ok.ensures.others work) way)))
+    (λ way. inr (c.in-Ok.ensures.free work, (m, way_before c.args.opts.now c.args.limits.now _ c.in-Ok.entered.digest _ f _ (c.in-Ok.ensures.others work) way)))
     (c.held-ended.ensures.run_trees none one two work)
 
 pub returns-clause-run_rest : goal.returns-clause-run_rest
@@ -410,7 +394,13 @@ returns-clause-only_base g c none only work good =
     (c.close.ensures.kept work (falls_ok c.args.opts.now.resilient c.args.opts.now.dry_run c.held-ended.result ok))
 
 pub returns-clause-blocked : goal.returns-clause-blocked
-returns-clause-blocked g c work clock until blocks = absurd (free_or_blocking _ until (g.W.Work.state c.args.work.now).folder.lock (c.in-Ok.ensures.free work clock) blocks)
+returns-clause-blocked g c work = blocked_nowhere (g.W.Work.state c.args.work.now).folder _ _ _ (c.in-Ok.ensures.free work)
+
+pub returns-in-Err-clause-entered : goal.returns-in-Err-clause-entered
+returns-in-Err-clause-entered g c work later = false_true (sym later ∙ c.in-Err.ensures.only)
+
+pub returns-clause-entered : goal.returns-clause-entered
+returns-clause-entered g c work later = (c.in-Ok.ensures.free work, (c.in-Ok.entered.rules, c.in-Ok.entered.digest, c.in-Ok.ensures.rules work))
 
 pub returns-in-Err-clause-fell : goal.returns-in-Err-clause-fell
 returns-in-Err-clause-fell g c work early fell never =
@@ -422,3 +412,38 @@ returns-clause-fell g c work early fell never =
     fell_before _ _ (g.W.Work.state c.held-ended.new.work).folder _ (c.in-Ok.ensures.others work) (c.held-ended.ensures.early (early_closed c.held-ended.result c.close.result c.close.ensures.end early) work)
     (c.close.ensures.fell work (fell_closed c.args.opts.now.resilient c.args.opts.now.dry_run c.held-ended.result c.close.result c.held-ended.ensures.well c.close.ensures.end fell)
     (no_rise_last _ (g.W.Work.state c.enter.new.work).faults (g.W.Work.state c.held-ended.new.work).faults _ never c.in-Ok.ensures.causes.later.work c.held-ended.ensures.causes.later.work))
+
+-- # What the work folder alone tells
+
+pub returns-in-Err-clause-begins : goal.returns-in-Err-clause-begins
+returns-in-Err-clause-begins g c none work = inl (c.in-Err.ensures.entry work)
+
+pub returns-in-Err-clause-begun : goal.returns-in-Err-clause-begun
+returns-in-Err-clause-begun g c none work good = absurd (unlocked_not_after_good c.args.opts.now.filters c.in-Err.end c.in-Err.ensures.kind good)
+
+pub returns-clause-begins : goal.returns-clause-begins
+returns-clause-begins g c none work =
+    let f = (g.W.Work.state c.args.work.now).folder in
+    let f2 = (g.W.Work.state c.enter.new.work).folder in
+    let s = sides_of c.args.opts.now.compare c.in-Ok.entered.rules (g.A.Remote.state c.args.one.now) (g.B.Remote.state c.args.two.now) in
+    let m : Matter c.args.opts.now f _ = record { rules = c.in-Ok.entered.rules; digest = c.in-Ok.entered.digest; are = c.in-Ok.ensures.rules work } in
+    inr (
+      c.in-Ok.ensures.free work,
+      (
+        m,
+        begins_before c.args.opts.now c.args.limits.now f f2 (c.in-Ok.ensures.others work) s c.in-Ok.entered.digest c.close.result
+            (begins_closed c.args.opts.now c.args.limits.now f2 s c.in-Ok.entered.digest c.held-ended.result c.close.result c.close.ensures.end
+            (c.held-ended.ensures.begins none work) (c.held-ended.ensures.begun none work)),
+      ),
+    )
+
+pub returns-clause-begun : goal.returns-clause-begun
+returns-clause-begun g c none work good =
+    let f = (g.W.Work.state c.args.work.now).folder in
+    let f2 = (g.W.Work.state c.enter.new.work).folder in
+    let s = sides_of c.args.opts.now.compare c.in-Ok.entered.rules (g.A.Remote.state c.args.one.now) (g.B.Remote.state c.args.two.now) in
+    let m : Matter c.args.opts.now f _ = record { rules = c.in-Ok.entered.rules; digest = c.in-Ok.entered.digest; are = c.in-Ok.ensures.rules work } in
+    let ok = after_good_was_ok _ _ c.held-ended.result c.close.result c.held-ended.ensures.causes.fault c.close.ensures.end good in (
+      c.in-Ok.ensures.free work,
+      (m, well_before c.args.opts.now c.args.limits.now f f2 (c.in-Ok.ensures.others work) s c.in-Ok.entered.digest (on_ok c.held-ended.result ok (c.held-ended.ensures.begun none work))),
+    )
