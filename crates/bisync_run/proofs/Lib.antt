@@ -8,6 +8,7 @@ pub mod RunEnds
 pub mod CloseLaws
 pub mod CauseLaws
 pub mod PreparedResync
+pub mod SeenTrees
 pub mod SeenViews
 pub mod GuardEnds
 pub mod PreparedOrdinary
@@ -19,6 +20,7 @@ pub mod NextSet
 pub mod EndCases
 pub mod HeldLaws
 pub mod LockTimes
+pub mod AsPlanned
 pub mod StepEnds
 pub mod LockNewLaws
 pub mod StepsDone

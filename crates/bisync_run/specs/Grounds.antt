@@ -2,7 +2,6 @@
 use Rattle.std.specs.Prelude.{◌≡◌, ◌≢◌, ◌⊎◌, ◌<◌, ℕ, List, Bool, IsTrue, Option, Some, None, ⊤}
 use Rattle.bisync_text.specs.Path.{IsPath}
 use Rattle.bisync_tree.specs.declared.sides.Side.{Side}
-use Rattle.bisync_tree.specs.declared.sides.Side.TheVariants.{One, Two}
 use Rattle.bisync_tree.specs.declared.entries.Entry.{Entry}
 use Rattle.bisync_tree.specs.declared.options.Limits.{Limits}
 use Rattle.bisync_plan.specs.Faults.{most}
@@ -30,9 +29,9 @@ abbrev pub IsReadAs : Entry → Option Entry → Type 0
 IsReadAs listed None = ⊤
 IsReadAs listed (Some read) = (bytes : List ℕ) × (read ≡ entry_read listed bytes)
 
--- A number of files is that of a tree that is told. A file isn't as it was listed only where not both sides tell, and what was
--- read of it is told.
+-- A number of files is that of a tree that is told. A file isn't as it was listed only where its own side doesn't tell, and
+-- what was read of it is told.
 abbrev pub IsTold : (Side → Bool) → Remotes → End → Type 0
 IsTold tells start (TooMany side files bytes) = IsTrue (tells side) → AreOfTree (start side).tree files bytes
-IsTold tells start (Moved side path listed read) = (IsTrue (tells One) → IsTrue (tells Two) → ⊥) × IsReadAs listed read
+IsTold tells start (Moved side path listed read) = (IsTrue (tells side) → ⊥) × IsReadAs listed read
 IsTold tells start end = ⊤

@@ -22,6 +22,7 @@ pub mod Courses
 pub mod OrdinaryRefusals
 pub mod OrdinaryEnds
 pub mod OrdinaryLooks
+pub mod Planned
 pub mod Ordinary
 pub mod OrdinaryChanges
 pub mod OrdinaryRuns

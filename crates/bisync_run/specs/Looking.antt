@@ -1,7 +1,7 @@
 -- What looking at the sides comes to: what was seen of them, and why nothing was.
-use Rattle.std.specs.Prelude.{◌≡◌, ◌⊎◌, Bool, true, false, IsTrue, None, Result, Ok, Err, ⊤}
+use Rattle.std.specs.Prelude.{◌≡◌, ◌⊎◌, List, Bool, true, false, IsTrue, None, Result, Ok, Err, ⊤}
 use Rattle.bisync_text.specs.Path.{IsPath}
-use Rattle.bisync_tree.specs.Rows.{PathBytes}
+use Rattle.bisync_tree.specs.Rows.{PathBytes, Rows}
 use Rattle.bisync_tree.specs.Tree.{Tree}
 use Rattle.bisync_tree.specs.declared.sides.Side.{Side}
 use Rattle.bisync_tree.specs.declared.sides.Side.TheVariants.{One, Two}
@@ -9,7 +9,7 @@ use Rattle.bisync_tree.specs.declared.entries.Compare.{Compare}
 use Rattle.bisync_tree.specs.declared.options.Limits.{Limits}
 use Rattle.bisync_device.specs.Remote.{RemoteState, KeepsTree}
 use Rattle.bisync_observe.specs.Counting.{IsOver, AreOfTree}
-use Rattle.bisync_observe.specs.Observing.{ArePassingNames, HaveDigestsFor, AreWithin, IsMoved}
+use Rattle.bisync_observe.specs.Observing.{ArePassingNames, HaveDigestsFor, AreWithin, IsMoved, IsSeenOf}
 use Rattle.bisync_observe.specs.declared.observing.Seen.{Seen}
 use Rattle.bisync_observe.specs.declared.faults.ObserveFault.{ObserveFault}
 use Rattle.bisync_observe.specs.declared.faults.ObserveFault.TheVariants as unseen
@@ -26,6 +26,12 @@ pub record OnlyLooks (tells : Bool) (before after : RemoteState) : Type 0 where
   pub left : before.left ≡ None → after.left ≡ None
 
 -- # One side
+
+-- what was seen is what some tree would show; that of a remote that tells is its own
+pub record IsSeenAs (tells : Bool) (compare : Compare) (passes : PathBytes → Bool) (own : Tree) (names : List PathBytes) (listing : Rows) : Type 0 where
+  pub tree : Tree
+  pub own_is : IsTrue tells → tree ≡ own
+  pub seen : IsSeenOf compare passes tree names listing
 
 -- the end of a run that didn't see a side
 abbrev pub unseen_end : Side → ObserveFault → End

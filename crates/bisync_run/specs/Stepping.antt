@@ -4,12 +4,14 @@ use Rattle.bisync_tree.specs.declared.sides.Side.{Side}
 use Rattle.bisync_tree.specs.declared.steps.Step.{Step}
 use Rattle.bisync_tree.specs.declared.steps.Step.TheVariants.{Copy, Rename, Delete}
 use Rattle.bisync_tree.specs.Rows.{PathBytes}
+use Rattle.bisync_tree.specs.Tree.{file_at}
 use Rattle.bisync_model.specs.Policy.{Policy}
+use Rattle.bisync_model.specs.Trees.{Trees}
 use Rattle.bisync_model.specs.Finds.{EachFindsFile}
 use Rattle.bisync_device.specs.Remote.{RemoteState}
 use Rattle.bisync_device.specs.WorkFolder.{WorkFolder}
 use Rattle.bisync_transfer.specs.StepEffect.{source_of, listed_of}
-use Rattle.bisync_transfer.specs.StepTrees.{AreDone, trees_in, windows_in}
+use Rattle.bisync_transfer.specs.StepTrees.{AreDone, windows_in}
 use Rattle.bisync_transfer.specs.declared.steps.StepFault.{StepFault}
 use Rattle.bisync_transfer.specs.declared.steps.StepFault.TheVariants as fault
 use Rattle.bisync_work.specs.LockTexts.{expiry_of, lock_text}
@@ -24,11 +26,19 @@ pub record IsPartDone (steps : List Step) (start now : Side → RemoteState) : T
   pub within : count ≤ length steps
   pub done : AreDone (take count steps) start now
 
--- each of the steps finds its file as it was listed, once the steps before it are done, by some policy
-pub record FindsAll (steps : List Step) (start : Side → RemoteState) : Type 0 where
+-- each of the steps finds its file as it was listed, once the steps before it are done, by some policy and in some trees, of
+-- which a side that tells has its own
+pub record FindsAll (tells : Side → Bool) (steps : List Step) (start : Side → RemoteState) : Type 0 where
   pub policy : Policy
+  pub trees : Trees
   pub windows : (side : Side) → policy.window side ≡ windows_in start side
-  pub finds : EachFindsFile policy steps (trees_in start)
+  pub own : (side : Side) → IsTrue (tells side) → (p : PathBytes) → trees side p ≡ file_at (start side).tree p
+  pub finds : EachFindsFile policy steps trees
+
+-- no file of a side that tells is another than it was listed
+abbrev pub FindsTold : (Side → Bool) → End → Type 0
+FindsTold tells (Moved side path listed read) = IsTrue (tells side) → ⊥
+FindsTold tells end = ⊤
 
 -- the ends that steps may have
 abbrev pub IsStepEnd : End → Type 0

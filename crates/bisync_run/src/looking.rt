@@ -6,7 +6,7 @@ ghost use Rattle.bisync_filter.specs.Passing.{rules_pass};
 ghost use Rattle.bisync_model.specs.Trees.{by_side};
 ghost use Rattle.bisync_observe.specs.Observing.{ArePassingNames, HaveDigestsFor, AreWithin, IsSeenOf};
 ghost use Rattle.bisync_run.specs.Counts.{counts, HasCauses};
-ghost use Rattle.bisync_run.specs.Looking.{OnlyLooks, IsSeen, IsWhyUnseen, IsWhyNotBoth, unseen_end, is_remote_fault};
+ghost use Rattle.bisync_run.specs.Looking.{OnlyLooks, IsSeen, IsSeenAs, IsWhyUnseen, IsWhyNotBoth, unseen_end, is_remote_fault};
 ghost use Rattle.bisync_run.specs.Sides.{compare_in};
 
 use bisync_device::Remote;
@@ -64,6 +64,7 @@ pub fn look_at<R: Remote>(
     ensures digests { IfOk result (λ seen. HaveDigestsFor compare.now seen.listing) }
     ensures within { IfOk result (λ seen. AreWithin limits.now seen.names) }
     ensures seen { IsTrue R.tells → IfOk result (λ seen. IsSeenOf compare.now (rules_pass rules.now) (R.state remote.old).tree seen.names seen.listing) }
+    ensures some { IfOk result (λ seen. IsSeenAs R.tells compare.now (rules_pass rules.now) (R.state remote.old).tree seen.names seen.listing) }
     ensures refusal { IfErr result (IsWhyUnseen R.tells (R.state remote.old).tree compare.now (rules_pass rules.now) limits.now side) }
 {
     if remote.attach(root).is_err() {
@@ -92,6 +93,8 @@ pub fn look_at_both<A: Remote, B: Remote>(
     ensures is_seen2 { IfOk result (λ seen. IsSeen compare.now (rules_pass rules.now) limits.now seen.two) }
     ensures seen1 { IsTrue A.tells → IfOk result (λ seen. IsSeenOf compare.now (rules_pass rules.now) (A.state one.old).tree seen.one.names seen.one.listing) }
     ensures seen2 { IsTrue B.tells → IfOk result (λ seen. IsSeenOf compare.now (rules_pass rules.now) (B.state two.old).tree seen.two.names seen.two.listing) }
+    ensures some1 { IfOk result (λ seen. IsSeenAs A.tells compare.now (rules_pass rules.now) (A.state one.old).tree seen.one.names seen.one.listing) }
+    ensures some2 { IfOk result (λ seen. IsSeenAs B.tells compare.now (rules_pass rules.now) (B.state two.old).tree seen.two.names seen.two.listing) }
     ensures refusal { IfErr result (IsWhyNotBoth (by_side A.tells B.tells) (A.state one.old).tree (B.state two.old).tree compare.now (rules_pass rules.now) limits.now) }
 {
     let seen1 = match look_at(alloc, Side::One, &opts.root1, rules, compare, limits, one) {

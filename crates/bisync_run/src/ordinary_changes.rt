@@ -15,7 +15,7 @@ ghost use Rattle.bisync_run.specs.Counts.{counts, HasCauses};
 ghost use Rattle.bisync_run.specs.LockNew.{KeepsLockNew};
 ghost use Rattle.bisync_run.specs.Ordinary.{but_ordinary};
 ghost use Rattle.bisync_run.specs.OrdinaryChanges.{IsPrepared, IsSetBack, KeepsOrSwitches, IsNextSet, but_listings};
-ghost use Rattle.bisync_run.specs.Stepping.{IsPartDone, FindsAll, IsStepEnd, IsDeviceFault, MovedDiffers, MovedIsRead};
+ghost use Rattle.bisync_run.specs.Stepping.{IsPartDone, FindsAll, FindsTold, IsStepEnd, MovedDiffers, MovedIsRead};
 
 use crate::prepared::Prepared;
 use crate::steps::{Changes, Renewal, do_steps};
@@ -70,7 +70,7 @@ pub fn carry_out_ordinary<A: Remote, B: Remote, W: Work, C: Clock>(
     ensures end { IfErr result IsStepEnd }
     ensures moved { IfErr result MovedDiffers }
     ensures read { IfErr result MovedIsRead }
-    ensures found { IsTrue A.tells → IsTrue B.tells → FindsAll prepared.plan.steps.items (by_side (A.state one.old) (B.state two.old)) → IfErr result IsDeviceFault }
+    ensures found { FindsAll (by_side A.tells B.tells) prepared.plan.steps.items (by_side (A.state one.old) (B.state two.old)) → IfErr result (FindsTold (by_side A.tells B.tells)) }
     ensures windows { ((A.state one.new).window ≡ (A.state one.old).window) × ((B.state two.new).window ≡ (B.state two.old).window) }
     ensures left1 { (A.state one.old).left ≡ None → (A.state one.new).left ≡ None }
     ensures left2 { (B.state two.old).left ≡ None → (B.state two.new).left ≡ None }

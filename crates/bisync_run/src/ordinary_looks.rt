@@ -17,7 +17,8 @@ ghost use Rattle.bisync_run.specs.Grounds.{HasGrounds, IsTold};
 ghost use Rattle.bisync_run.specs.Looking.{OnlyLooks};
 ghost use Rattle.bisync_run.specs.LookRuns.{IsPlannedView};
 ghost use Rattle.bisync_run.specs.OrdinaryEnds.{IsUnplannedOrdinaryEnd};
-ghost use Rattle.bisync_run.specs.OrdinaryLooks.{HasPrior, IsPriorOf, IsPriorAnswer, IsPriorEnd, IsGuardEnd, ForStart, AnswersLook, IsPlannedFrom};
+ghost use Rattle.bisync_run.specs.OrdinaryLooks.{HasPrior, IsPriorOf, IsPriorAnswer, IsPriorEnd, IsGuardEnd, ForStart, AnswersLook};
+ghost use Rattle.bisync_run.specs.Planned.{IsPlannedOver};
 ghost use Rattle.bisync_run.specs.Sides.{compare_in, sides_of};
 
 use crate::looking::{BothSeen, look_at_both, run_compare};
@@ -57,7 +58,7 @@ pub fn look_ordinary<A: Remote, B: Remote>(
     ensures writable { IfOk result (λ look. AreWritable (header_of started.stamp look.compare) look.plan) }
     ensures within1 { IfOk result (λ look. length (listing_text (header_of started.stamp look.compare) look.plan.final1) ≤ most limits.now.listing) }
     ensures within2 { IfOk result (λ look. length (listing_text (header_of started.stamp look.compare) look.plan.final2) ≤ most limits.now.listing) }
-    ensures planned { IsTrue A.tells → IsTrue B.tells → IfOk result (λ look. IsPlannedFrom opts.now (sides_of opts.now.compare rules.now (A.state one.old) (B.state two.old)) started look.plan) }
+    ensures planned { IfOk result (λ look. IsPlannedOver (by_side A.tells B.tells) opts.now (sides_of opts.now.compare rules.now (A.state one.old) (B.state two.old)) started look.plan) }
     ensures seen { IfOk result (IsPlannedView opts.now rules.now (A.state one.old).window (B.state two.old).window) }
     ensures look { IsTrue A.tells → IsTrue B.tells → (f : WorkFolder) (digest : Option (List ℕ)) → ForStart opts.now limits.now f digest started (IfOk result
         (IsLook opts.now limits.now f (sides_of opts.now.compare rules.now (A.state one.old) (B.state two.old)) digest started.stamp started.pair)) }

@@ -11,7 +11,7 @@ ghost use Rattle.bisync_transfer.specs.StepTrees.{AreDone};
 ghost use Rattle.bisync_run.specs.CarryingOut.{AreWithin, LeavesOneBase, but_carried, AreCarriedOut};
 ghost use Rattle.bisync_run.specs.Counts.{counts, HasCauses};
 ghost use Rattle.bisync_run.specs.LockNew.{KeepsLockNew};
-ghost use Rattle.bisync_run.specs.Stepping.{IsPartDone, FindsAll, IsStepEnd, IsDeviceFault, MovedDiffers, MovedIsRead};
+ghost use Rattle.bisync_run.specs.Stepping.{IsPartDone, FindsAll, FindsTold, IsStepEnd, MovedDiffers, MovedIsRead};
 
 use crate::prepared::Prepared;
 use crate::resync_writes::write_resync;
@@ -49,7 +49,7 @@ pub fn carry_out<A: Remote, B: Remote, W: Work, C: Clock>(
     ensures end { IfErr result IsStepEnd }
     ensures moved { IfErr result MovedDiffers }
     ensures read { IfErr result MovedIsRead }
-    ensures found { IsTrue A.tells → IsTrue B.tells → FindsAll prepared.plan.steps.items (by_side (A.state one.old) (B.state two.old)) → IfErr result IsDeviceFault }
+    ensures found { FindsAll (by_side A.tells B.tells) prepared.plan.steps.items (by_side (A.state one.old) (B.state two.old)) → IfErr result (FindsTold (by_side A.tells B.tells)) }
     ensures windows { ((A.state one.new).window ≡ (A.state one.old).window) × ((B.state two.new).window ≡ (B.state two.old).window) }
     ensures left1 { (A.state one.old).left ≡ None → (A.state one.new).left ≡ None }
     ensures left2 { (B.state two.old).left ≡ None → (B.state two.new).left ≡ None }

@@ -13,6 +13,7 @@ ghost use Rattle.bisync_run.specs.Counts.{counts, HasCauses};
 ghost use Rattle.bisync_run.specs.EndKinds.{is_unlocked, is_sink_fault};
 ghost use Rattle.bisync_run.specs.Grounds.{HasGrounds, IsTold};
 ghost use Rattle.bisync_run.specs.Looking.{OnlyLooks, IsWhyNoStamp};
+ghost use Rattle.bisync_run.specs.Planned.{IsResyncOver};
 ghost use Rattle.bisync_run.specs.ResyncEnds.{IsUnplannedEnd};
 ghost use Rattle.bisync_run.specs.ResyncRefusals.{AnswersResync, HasNoResyncRefusal};
 ghost use Rattle.bisync_run.specs.Sides.{compare_in, sides_of, resync_known, resync_paths};
@@ -49,6 +50,7 @@ pub fn look_resync<A: Remote, B: Remote, W: Work>(
     ensures new_stamp { IsTrue W.tells → IfOk result (λ prepared. IsNewStamp limits.now.listing (W.state work.old).folder prepared.stamp) }
     ensures plan { IsTrue A.tells → IsTrue B.tells → IfOk result (λ prepared.
         IsResyncOf (resync_known mode (sides_of opts.now.compare rules.now (A.state one.old) (B.state two.old))) (resync_paths (sides_of opts.now.compare rules.now (A.state one.old) (B.state two.old))) prepared.plan) }
+    ensures over { IfOk result (λ prepared. IsResyncOver (by_side A.tells B.tells) mode (sides_of opts.now.compare rules.now (A.state one.old) (B.state two.old)) prepared.plan) }
     ensures accepted { IsTrue A.tells → IsTrue B.tells → IsTrue W.tells → OnOk result (HasNoResyncRefusal mode limits.now (W.state work.old).folder (sides_of opts.now.compare rules.now (A.state one.old) (B.state two.old))) }
     ensures refusal { IsTrue A.tells → IsTrue B.tells → IsTrue W.tells → IfErr result (AnswersResync mode limits.now (W.state work.old).folder (sides_of opts.now.compare rules.now (A.state one.old) (B.state two.old))) }
     ensures only { IfErr result (λ end. (is_unlocked end ≡ false) × (is_sink_fault end ≡ false)) }

@@ -11,7 +11,7 @@ ghost use Rattle.bisync_transfer.specs.StepTrees.{AreDone};
 ghost use Rattle.bisync_work.specs.Locks.{ChangesLock};
 ghost use Rattle.bisync_run.specs.Counts.{counts, HasCauses};
 ghost use Rattle.bisync_run.specs.LockNew.{KeepsLockNew};
-ghost use Rattle.bisync_run.specs.Stepping.{IsPartDone, FindsAll, IsStepEnd, IsDeviceFault, MovedDiffers, MovedIsRead, TellsStep, IsKept, path_of, end_of_step};
+ghost use Rattle.bisync_run.specs.Stepping.{IsPartDone, FindsAll, FindsTold, IsStepEnd, MovedDiffers, MovedIsRead, TellsStep, IsKept, path_of, end_of_step};
 
 use bisync_device::{Clock, Failed, Remote, Work};
 use bisync_report::End;
@@ -53,7 +53,7 @@ pub fn do_steps<A: Remote, B: Remote, W: Work, C: Clock>(
     ensures part { IsTrue A.tells → IsTrue B.tells → IsPartDone steps.items (by_side (A.state one.old) (B.state two.old)) (by_side (A.state one.new) (B.state two.new)) }
     ensures changes { IfOk result (λ changes. (changes.one ≡ sum_by (changes_of Side.One) steps.items) × (changes.two ≡ sum_by (changes_of Side.Two) steps.items)) }
     ensures end { IfErr result IsStepEnd }
-    ensures found { IsTrue A.tells → IsTrue B.tells → FindsAll steps.items (by_side (A.state one.old) (B.state two.old)) → IfErr result IsDeviceFault }
+    ensures found { FindsAll (by_side A.tells B.tells) steps.items (by_side (A.state one.old) (B.state two.old)) → IfErr result (FindsTold (by_side A.tells B.tells)) }
     ensures moved { IfErr result MovedDiffers }
     ensures read { IfErr result MovedIsRead }
     ensures told { IfErr result (TellsStep steps.items) }
