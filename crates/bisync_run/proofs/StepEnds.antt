@@ -1,42 +1,28 @@
 -- How a run ends at a step that was not done, or may not have been.
 use Rattle.std.proofs.Common.{◌≡◌, ◌++◌, ◌∷◌, Bool, IsTrue, List, Option, Some, None, Err, refl, sym, ap, subst}
 use Rattle.bisync_tree.specs.declared.sides.Side.{Side}
-use Rattle.bisync_tree.specs.declared.sides.Side.TheVariants.{One, Two}
 use Rattle.bisync_tree.specs.declared.entries.Entry.{Entry}
 use Rattle.bisync_tree.specs.declared.steps.Step.{Step}
 use Rattle.bisync_tree.specs.declared.steps.Step.TheVariants.{Copy, Rename, Delete}
 use Rattle.bisync_device.specs.Remote.{RemoteState}
-use Rattle.bisync_model.specs.Trees.{by_side}
-use Rattle.bisync_model.specs.Finds.{FindsFile}
 use Rattle.bisync_model.specs.Effects.{after as after_steps}
 use Rattle.bisync_transfer.specs.StepEffect.{HasStepFile, IsMovedUnless, IsReadOf, TellsMoved, source_of, listed_of}
-use Rattle.bisync_transfer.specs.StepTrees.{AreDone, trees_in, windows_in}
 use Rattle.bisync_transfer.specs.declared.steps.StepFault.{StepFault}
 use Rattle.bisync_transfer.specs.declared.steps.StepFault.TheVariants as fault
-use Rattle.bisync_transfer.proofs.FoundFiles.{found_in}
 use Rattle.bisync_run.specs.Grounds.{IsOther, IsReadAs}
-use Rattle.bisync_run.specs.Stepping.{FindsAll, IsStepEnd, IsDeviceFault, MovedDiffers, MovedIsRead, TellsStep, end_of_step}
+use Rattle.bisync_run.specs.Stepping.{FindsAll, FindsTold, IsStepEnd, MovedDiffers, MovedIsRead, TellsStep, end_of_step}
+use Rattle.bisync_run.proofs.AsPlanned.{AreAsPlanned, found_as_planned}
 
-both_tell : (one two : Bool) → IsTrue one → IsTrue two → (side : Side) → IsTrue (by_side one two side)
-both_tell one two a b One = a
-both_tell one two a b Two = b
-
--- a step that is to find its file finds it after the steps before it
-found_now : (steps done later : List Step) (step : Step) (start now : Side → RemoteState)
-    → FindsAll steps start → steps ≡ done ++ step ∷ later → AreDone done start now → HasStepFile step (now (source_of step))
-found_now steps done later step start now all split are =
-    found_in all.policy.compare step (after_steps (windows_in start) done (trees_in start)) now are.trees
-    (subst (λ w. FindsFile all.policy.compare step (after_steps w done (trees_in start))) (λ i side. all.windows side i) (all.finds done step later split))
-
-not_moved : (step : Step) (answer : StepFault) (P : Type 0) → P → IsMovedUnless P (Err answer) → IsDeviceFault (end_of_step step answer)
-not_moved step (fault.RemoteFault side) P p is = tt
-not_moved step (fault.Moved side listed read) P p lacks = absurd (lacks p)
-
-pub found_end : (one two : Bool) (steps done later : List Step) (step : Step) (answer : StepFault) (start now : Side → RemoteState)
-    → (IsTrue (by_side one two (source_of step)) → IsMovedUnless (HasStepFile step (now (source_of step))) (Err answer))
-    → IsTrue one → IsTrue two → FindsAll steps start → steps ≡ done ++ step ∷ later → AreDone done start now → IsDeviceFault (end_of_step step answer)
-found_end one two steps done later step answer start now exact a b all split are =
-    not_moved step answer _ (found_now steps done later step start now all split are) (exact (both_tell one two a b (source_of step)))
+-- a step of a side that tells finds its file there, as the plan does, after the steps before it
+pub found_end : (tells : Side → Bool) (steps done later : List Step) (step : Step) (answer : StepFault) (start now : Side → RemoteState) (x : FindsAll tells steps start)
+    → (IsTrue (tells (source_of step)) → IsMovedUnless (HasStepFile step (now (source_of step))) (Err answer)) → TellsMoved tells step now (Err answer)
+    → steps ≡ done ++ step ∷ later
+    → ((side : Side) → IsTrue (tells side) → AreAsPlanned x.policy.compare (now side).tree (after_steps x.policy.window done x.trees side))
+    → FindsTold tells (end_of_step step answer)
+found_end tells steps done later step (fault.RemoteFault side) start now x exact moved split planned = tt
+found_end tells steps done later step (fault.Moved side listed read) start now x exact moved split planned = λ t.
+    let its = subst (λ (s : Side). IsTrue (tells s)) moved.0 t in
+    exact its (found_as_planned x.policy.compare step (after_steps x.policy.window done x.trees) (now (source_of step)) (planned (source_of step) its) (x.finds done step later split))
 
 pub step_end : (step : Step) (answer : StepFault) → IsStepEnd (end_of_step step answer)
 step_end step (fault.RemoteFault side) = tt

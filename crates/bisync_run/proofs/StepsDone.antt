@@ -1,6 +1,8 @@
 -- What holds between two steps of a plan, and what a step adds to it.
 use Rattle.std.proofs.Common.{◌≡◌, ◌+◌, ◌++◌, [], ◌∷◌, ℕ, Bool, true, false, IsTrue, List, length, take, None, Result, Ok, Err, refl, sym, ◌∙◌, ap, subst, inl, inr, arith, append_assoc, length-append}
 use Rattle.std.proofs.Math.Seq.{take-append_seam}
+use Rattle.std.specs.Option.{option_map}
+use Rattle.bisync_tree.specs.Tree.{entry}
 use Rattle.bisync_tree.specs.declared.sides.Side.{Side}
 use Rattle.bisync_tree.specs.declared.sides.Side.TheVariants.{One, Two}
 use Rattle.bisync_tree.specs.declared.steps.Step.{Step}
@@ -8,10 +10,12 @@ use Rattle.bisync_device.specs.Faults.{HasCause}
 use Rattle.bisync_device.specs.Remote.{RemoteState}
 use Rattle.bisync_device.specs.Work.{WorkState}
 use Rattle.bisync_device.specs.WorkFolder.{WorkFolder}
-use Rattle.bisync_model.specs.Trees.{by_side}
+use Rattle.bisync_model.specs.Trees.{Trees, by_side}
+use Rattle.bisync_model.specs.Effects.{after as after_steps}
+use Rattle.bisync_model.proofs.StepEffects.{after-append}
 use Rattle.bisync_transfer.specs.CallsMade.{MadeCalls}
-use Rattle.bisync_transfer.specs.StepEffect.{Performs, is_fault_of}
-use Rattle.bisync_transfer.specs.StepTrees.{AreDone, KeepsWindows, GoesOn}
+use Rattle.bisync_transfer.specs.StepEffect.{IsDone, Performs, is_fault_of}
+use Rattle.bisync_transfer.specs.StepTrees.{AreDone, KeepsWindows, GoesOn, windows_in}
 use Rattle.bisync_transfer.specs.declared.steps.StepFault.{StepFault}
 use Rattle.bisync_transfer.specs.declared.steps.StepFault.TheVariants as fault
 use Rattle.bisync_transfer.proofs.StepTreesLemmas.{none_done, leaves, goes_on}
@@ -20,7 +24,8 @@ use Rattle.bisync_report.specs.declared.ends.End.{End}
 use Rattle.bisync_report.specs.declared.ends.End.TheVariants.{WorkFault}
 use Rattle.bisync_run.specs.Counts.{counts, Stops, HasCauses}
 use Rattle.bisync_run.specs.LockNew.{KeepsLockNew}
-use Rattle.bisync_run.specs.Stepping.{IsPartDone, end_of_step}
+use Rattle.bisync_run.specs.Stepping.{IsPartDone, FindsAll, end_of_step}
+use Rattle.bisync_run.proofs.AsPlanned.{AreAsPlanned, goes_planned}
 use Rattle.bisync_run.proofs.LockNewLaws.{lock_new_twice}
 
 -- the first of the steps are done, the others are left, and no call of a remote failed
@@ -31,6 +36,9 @@ pub record Going (one two : Bool) (steps left : List Step) (start now : Side →
   pub windows : KeepsWindows start now
   pub unstopped : (side : Side) → (start side).left ≡ None → (now side).left ≡ None
   pub faults : (side : Side) → (now side).faults ≡ (start side).faults
+  -- the tree of a side that tells is as the plan's
+  pub planned : (x : FindsAll (by_side one two) steps start) → (side : Side) → IsTrue (by_side one two side)
+      → AreAsPlanned x.policy.compare (now side).tree (after_steps x.policy.window finished x.trees side)
 
 -- only the lock changed in the work folder, and no call of it failed
 pub record Keeping (tells : Bool) (start now : WorkState) : Type 0 where
@@ -85,6 +93,7 @@ going_first one two steps left start is = record {
   windows = λ side. refl;
   unstopped = λ side n. n;
   faults = λ side. refl;
+  planned = λ x side t p. ap (option_map (entry x.policy.compare)) (sym (x.own side t p));
 }
 
 pub part_now : (one two : Bool) (steps left : List Step) (start now : Side → RemoteState) → Going one two steps left start now → IsTrue one → IsTrue two → IsPartDone steps start now
@@ -111,6 +120,10 @@ none_left (step ∷ next) number count none = absurd (omega arith)
 pub split_here : (one two : Bool) (steps left next : List Step) (step : Step) (start now : Side → RemoteState) (going : Going one two steps left start now) → left ≡ step ∷ next → steps ≡ going.finished ++ step ∷ next
 split_here one two steps left next step start now going turn = going.split ∙ ap (λ l. going.finished ++ l) turn
 
+window_of : (start : Side → RemoteState) (side : Side) → windows_in start side ≡ (start side).window
+window_of start One = refl
+window_of start Two = refl
+
 module _ (one two : Bool) (steps left next : List Step) (step : Step) (start before after : Side → RemoteState) (going : Going one two steps left start before) (turn : left ≡ step ∷ next) where
   here : steps ≡ going.finished ++ step ∷ next
   here = split_here one two steps left next step start before going turn
@@ -120,6 +133,13 @@ module _ (one two : Bool) (steps left next : List Step) (step : Step) (start bef
   went_on answer calls performs a b =
       goes_on going.finished step start before after (going.are a b) (λ side. (calls side).window) answer (leaves (by_side one two) before after a b step answer performs)
 
+  planned_next : IsDone (by_side one two) step before after → (x : FindsAll (by_side one two) steps start) → (side : Side) → IsTrue (by_side one two side)
+      → AreAsPlanned x.policy.compare (after side).tree (after_steps x.policy.window (going.finished ++ step ∷ []) x.trees side)
+  planned_next is x side t =
+      subst (λ (T : Trees). AreAsPlanned x.policy.compare (after side).tree (T side)) (sym (after-append x.policy.window going.finished (step ∷ []) x.trees))
+      (goes_planned (by_side one two) x.policy.compare x.policy.window before after (after_steps x.policy.window going.finished x.trees)
+      (λ of. x.windows of ∙ window_of start of ∙ sym (going.windows of)) step is (x.finds going.finished step next here) side t (going.planned x side t))
+
   pub going_next : (u : Unit {0}) → Calls (Ok u) before after → Performs (by_side one two) step before after (Ok u) → Going one two steps next start after
   going_next u calls performs = record {
     finished = going.finished ++ step ∷ [];
@@ -128,6 +148,7 @@ module _ (one two : Bool) (steps left next : List Step) (step : Step) (start bef
     windows = λ side. (calls side).window ∙ going.windows side;
     unstopped = λ side n. (calls side).unstopped (going.unstopped side n);
     faults = λ side. (calls side).cause.kept refl ∙ going.faults side;
+    planned = λ x side t. planned_next performs x side t;
   }
 
   part_after : (answer : StepFault) → GoesOn going.finished step start after (Err answer) → IsPartDone steps start after

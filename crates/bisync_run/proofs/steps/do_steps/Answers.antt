@@ -1,7 +1,8 @@
 use Rattle.std.proofs.Common.{Ok, Err, ℕ, refl, sym, ◌∙◌, subst}
 use Rattle.bisync_device.specs.Faults.{Rose}
 use Rattle.bisync_tree.specs.declared.sides.Side.TheVariants.{One, Two}
-use Rattle.bisync_run.specs.Stepping.{IsDeviceFault, MovedDiffers, MovedIsRead}
+use Rattle.bisync_model.specs.Trees.{by_side}
+use Rattle.bisync_run.specs.Stepping.{FindsTold, MovedDiffers, MovedIsRead}
 use Rattle.bisync_run.proofs.LockNewLaws.{lock_new_twice, kept_lock_new}
 use Rattle.bisync_run.proofs.StepEnds.{found_end, moved_differs, moved_is_read}
 use Rattle.bisync_run.proofs.StepsDone.{part_now, done_now, both, going_next, keeping_next, fewer_left, none_left, split_here, part_end, causes_end, causes_lock, causes_none}
@@ -38,10 +39,11 @@ returns-in-Err-perform-clause-part g c =
     part_end _ _ _ _ _ _ _ _ _ c.loop-step.invariant.2 c.in-Some.ensures.steps.0 c.in-Err-perform.fault (both (Err c.in-Err-perform.fault) _ _ e.one e.two) e.effect
 
 pub returns-in-Err-perform-clause-found : goal.returns-in-Err-perform-clause-found
-returns-in-Err-perform-clause-found g c = λ one two all.
+returns-in-Err-perform-clause-found g c = λ x.
     let i = c.loop-step.invariant.2 in
-    let split = split_here _ _ _ _ _ _ _ _ i c.in-Some.ensures.steps.0 in
-    subst IsDeviceFault (sym c.end_of.ensures) (found_end _ _ _ _ _ c.in-Some.step c.in-Err-perform.fault _ _ c.in-Err-perform.ensures.exact one two all split (i.are one two))
+    let e = c.in-Err-perform.ensures in
+    subst (FindsTold (by_side g.A.Remote.tells g.B.Remote.tells)) (sym c.end_of.ensures)
+    (found_end _ _ _ _ c.in-Some.step c.in-Err-perform.fault _ _ x e.exact e.moved (split_here _ _ _ _ _ _ _ _ i c.in-Some.ensures.steps.0) (i.planned x))
 
 pub returns-in-Err-perform-clause-moved : goal.returns-in-Err-perform-clause-moved
 returns-in-Err-perform-clause-moved g c = subst MovedDiffers (sym c.end_of.ensures) (moved_differs _ c.in-Some.step _ c.in-Err-perform.fault c.in-Err-perform.ensures.moved)
