@@ -10,6 +10,7 @@ use Rattle.bisync_run.proofs.PreparedResync.{listable}
 use Rattle.bisync_run.proofs.SeenViews.{narrowed_view, complete_view, keeps_times, view_of_sides, may_look, plan_of_view, fault_of_view}
 use Rattle.bisync_run.proofs.PlannedFound.{planned_found, view_found}
 use Rattle.bisync_run.proofs.PlannedViews.{planned_view}
+use Rattle.bisync_run.specs.Planned.{with_trees}
 use Rattle.bisync_run.proofs.ordinary_looks.look_ordinary.Goals as goal
 
 pub returns-in-Err-look_at_both-clause-refusal : goal.returns-in-Err-look_at_both-clause-refusal
@@ -108,13 +109,16 @@ returns-in-Err-made-clause-causes g c work sink =
     follows _ _ _ c.in-Ok-look_at_both.seen _ (c.in-Ok-look_at_both.ensures.causes work sink) (not_planned _ c.in-Err-made.fault _ c.unplanned.ensures)
 
 pub returns-in-Ok-made-clause-planned : goal.returns-in-Ok-made-clause-planned
-returns-in-Ok-made-clause-planned g c one two =
-    let s = sides_of c.args.opts.now.compare c.args.rules.now (g.A.Remote.state c.args.one.now) (g.B.Remote.state c.args.two.now) in
+returns-in-Ok-made-clause-planned g c =
+    let one = c.in-Ok-look_at_both.ensures.some1 in
+    let two = c.in-Ok-look_at_both.ensures.some2 in
+    let s = with_trees (sides_of c.args.opts.now.compare c.args.rules.now (g.A.Remote.state c.args.one.now) (g.B.Remote.state c.args.two.now)) one.tree two.tree in
     let seen = view_found c.args.opts.now s c.args.started c.run_compare-compare.result c.seen_view-view.result c.run_compare-compare.ensures _ _ _ _ _ _
     c.seen_view-view.ensures.prior c.seen_view-view.ensures.base c.seen_view-view.ensures.now c.seen_view-view.ensures.names
-    c.in-Ok.ensures.prior (c.in-Ok-look_at_both.ensures.seen1 one) (c.in-Ok-look_at_both.ensures.seen2 two) in
-    planned_found c.args.opts.now s c.args.started c.run_compare-compare.result c.seen_view-view.result c.run_compare-compare.ensures c.window.result c.window-2.result
-    (c.window.ensures ∙ c.in-Ok-look_at_both.ensures.one.window) (c.window-2.ensures ∙ c.in-Ok-look_at_both.ensures.two.window) seen c.in-Ok-made.plan c.in-Ok-made.ensures.plan
+    c.in-Ok.ensures.prior one.seen two.seen in
+    let plan = planned_found c.args.opts.now s c.args.started c.run_compare-compare.result c.seen_view-view.result c.run_compare-compare.ensures c.window.result c.window-2.result
+    (c.window.ensures ∙ c.in-Ok-look_at_both.ensures.one.window) (c.window-2.ensures ∙ c.in-Ok-look_at_both.ensures.two.window) seen c.in-Ok-made.plan c.in-Ok-made.ensures.plan in
+    record { one = one.tree; two = two.tree; own1 = one.own_is; own2 = two.own_is; plan = plan }
 
 pub returns-in-Ok-made-clause-seen : goal.returns-in-Ok-made-clause-seen
 returns-in-Ok-made-clause-seen g c =

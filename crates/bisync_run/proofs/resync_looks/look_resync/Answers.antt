@@ -3,6 +3,7 @@ use Rattle.bisync_filter.specs.Passing.{rules_pass}
 use Rattle.bisync_model.specs.Trees.{by_side}
 use Rattle.bisync_model.specs.Views.{resync_known_of}
 use Rattle.bisync_plan.specs.Plans.{header_of}
+use Rattle.bisync_run.specs.Planned.{with_trees}
 use Rattle.bisync_run.specs.Sides.{sides_of}
 use Rattle.bisync_run.proofs.CauseLaws.{follows, fails, nothing_failed, not_planned}
 use Rattle.bisync_run.proofs.PreparedResync.{listable, has_passing, plan_of_sides, fault_of_sides, not_refused, no_plan_end, no_plan_grounds, no_plan_kind}
@@ -36,6 +37,18 @@ returns-in-Ok-made-clause-plan g c a b =
     plan_of_sides c.args.mode s c.run_compare-compare.result c.window.result c.window-2.result _ _
     c.run_compare-compare.ensures (c.window.ensures ∙ seen.one.window) (c.window-2.ensures ∙ seen.two.window) (seen.seen1 a).listing (seen.seen2 b).listing
     c.in-Ok-made.plan (c.in-Ok-made.ensures.plan passes (has_passing _ _ _ seen.is_seen1.passing) (has_passing _ _ _ seen.is_seen2.passing))
+
+pub returns-in-Ok-made-clause-over : goal.returns-in-Ok-made-clause-over
+returns-in-Ok-made-clause-over g c =
+    let passes = rules_pass c.args.rules.now in
+    let seen = c.in-Ok-look_at_both.ensures in
+    let one = seen.some1 in
+    let two = seen.some2 in
+    let s = with_trees (sides_of c.args.opts.now.compare c.args.rules.now (g.A.Remote.state c.args.one.now) (g.B.Remote.state c.args.two.now)) one.tree two.tree in
+    let plan = plan_of_sides c.args.mode s c.run_compare-compare.result c.window.result c.window-2.result _ _
+    c.run_compare-compare.ensures (c.window.ensures ∙ seen.one.window) (c.window-2.ensures ∙ seen.two.window) one.seen.listing two.seen.listing
+    c.in-Ok-made.plan (c.in-Ok-made.ensures.plan passes (has_passing _ _ _ seen.is_seen1.passing) (has_passing _ _ _ seen.is_seen2.passing)) in
+    record { one = one.tree; two = two.tree; own1 = one.own_is; own2 = two.own_is; plan = plan }
 
 pub returns-in-Ok-made-clause-accepted : goal.returns-in-Ok-made-clause-accepted
 returns-in-Ok-made-clause-accepted g c a b w =
