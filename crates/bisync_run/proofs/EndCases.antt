@@ -1,6 +1,8 @@
 -- What is known of the end that a failed call or a moved file has.
-use Rattle.std.proofs.Common.{◌≡◌, refl, subst, true, false, Bool}
+use Rattle.std.proofs.Common.{◌≡◌, refl, subst, true, false, Bool, IsTrue}
 use Rattle.std.specs.Prelude.{⊤}
+use Rattle.bisync_tree.specs.declared.sides.Side.{Side}
+use Rattle.bisync_tree.specs.declared.sides.Side.TheVariants.{One, Two}
 use Rattle.bisync_tree.specs.declared.options.Limits.{Limits}
 use Rattle.bisync_tree.specs.declared.options.Prefer.{Prefer}
 use Rattle.bisync_device.specs.WorkFolder.{WorkFolder}
@@ -10,7 +12,7 @@ use Rattle.bisync_run.specs.EndKinds.{is_good, is_after_good, may_have_changed}
 use Rattle.bisync_run.specs.HeldResyncs.{IsGoodEndOf}
 use Rattle.bisync_run.specs.ResyncRefusals.{AnswersResync, HasNoResyncRefusal}
 use Rattle.bisync_run.specs.Sides.{Sides}
-use Rattle.bisync_run.specs.Stepping.{IsStepEnd, IsDeviceFault}
+use Rattle.bisync_run.specs.Stepping.{FindsTold, IsStepEnd, IsDeviceFault}
 
 abbrev IsFalse : Bool → Type 0
 IsFalse false = ⊤
@@ -53,6 +55,43 @@ device_answers mode limits f s (KeepFault side) x = absurd x
 device_answers mode limits f s (Checked differ) x = absurd x
 device_answers mode limits f s NotBuilt x = absurd x
 device_answers mode limits f s OutOfMemory x = absurd x
+
+-- where both sides tell, a call failed
+pub told_device : (tells : Side → Bool) → IsTrue (tells One) → IsTrue (tells Two) → (end : End) → IsStepEnd end → FindsTold tells end → IsDeviceFault end
+told_device tells a b (Done one two) x found = absurd x
+told_device tells a b (Resynced one two) x found = absurd x
+told_device tells a b DryRun x found = absurd x
+told_device tells a b InSync x found = absurd x
+told_device tells a b Demo x found = absurd x
+told_device tells a b (Usage kind) x found = absurd x
+told_device tells a b WorkFault x found = tt
+told_device tells a b NoFilters x found = absurd x
+told_device tells a b (BadRule line) x found = absurd x
+told_device tells a b (Locked until) x found = absurd x
+told_device tells a b (FiltersChanged now stored) x found = absurd x
+told_device tells a b (BadListing name line) x found = absurd x
+told_device tells a b (NeedResync need) x found = absurd x
+told_device tells a b (ListingsDiffer path one two) x found = absurd x
+told_device tells a b (EmptyPrior side) x found = absurd x
+told_device tells a b (RemoteFault side) x found = tt
+told_device tells a b (BadPath side text) x found = absurd x
+told_device tells a b (TooMany side files bytes) x found = absurd x
+told_device tells a b (CheckAccess side path) x found = absurd x
+told_device tells a b (EmptyCurrent side) x found = absurd x
+told_device tells a b (TooManyDeletes side gone all) x found = absurd x
+told_device tells a b (AllChanged side all) x found = absurd x
+told_device tells a b (NameTooLong side path) x found = absurd x
+told_device tells a b (ListingTooLong side bytes) x found = absurd x
+told_device tells a b (OutOfSync path one two) x found = absurd x
+told_device tells a b (Moved One path listed read) x found = absurd (found a)
+told_device tells a b (Moved Two path listed read) x found = absurd (found b)
+told_device tells a b (SinkFault done) x found = absurd x
+told_device tells a b LockLeft x found = absurd x
+told_device tells a b (FoldersLeft cause) x found = absurd x
+told_device tells a b (KeepFault side) x found = absurd x
+told_device tells a b (Checked differ) x found = absurd x
+told_device tells a b NotBuilt x found = absurd x
+told_device tells a b OutOfMemory x found = absurd x
 
 pub step_may_change : (end : End) → IsStepEnd end → may_have_changed end ≡ true
 step_may_change (Done one two) x = absurd x

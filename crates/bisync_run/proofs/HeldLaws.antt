@@ -1,5 +1,5 @@
 -- What a resync that holds the lock leaves, made of what its parts leave.
-use Rattle.std.proofs.Common.{◌≡◌, ◌∙◌, ◌≤◌, ap, subst, sym, inl, inr, ⊎_elim, arith, ℕ, List, Option, Some, length, sum_by}
+use Rattle.std.proofs.Common.{◌≡◌, ◌∙◌, ◌≤◌, ap, subst, sym, inl, inr, ⊎_elim, arith, ℕ, Bool, IsTrue, List, Option, Some, length, sum_by}
 use Rattle.std.proofs.lemmas.Grind.{common_steps}
 use Rattle.bisync_tree.specs.declared.sides.Side.{Side}
 use Rattle.bisync_tree.specs.declared.sides.Side.TheVariants.{One, Two}
@@ -22,6 +22,7 @@ use Rattle.bisync_work.specs.Moves.{moved_over}
 use Rattle.bisync_work.specs.Stamps.{IsNewStamp}
 use Rattle.bisync_report.specs.Lines.{steps_text}
 use Rattle.bisync_run.specs.CarryingOut.{AreWithin, LeavesOneBase, AreCarriedOut, AreSetAside, but_carried}
+use Rattle.bisync_run.specs.Planned.{IsResyncOver}
 use Rattle.bisync_run.specs.ResyncRefusals.{HasNoResyncRefusal}
 use Rattle.bisync_run.specs.Resyncs.{IsMadeAnew, IsResynced, LeavesBase, LeavesTrees, resync_changes, resync_lines}
 use Rattle.bisync_run.specs.ResyncWriting.{next_base, stored}
@@ -30,7 +31,7 @@ use Rattle.bisync_run.specs.Stepping.{IsPartDone, FindsAll}
 use Rattle.bisync_run.specs.Untouched.{Remotes, AreUntouched}
 use Rattle.bisync_run.specs.declared.prepared.Prepared.{Prepared}
 use Rattle.bisync_run.proofs.DoneSteps.{untouched_twice, done_since, part_since, finds_past}
-use Rattle.bisync_run.proofs.MadeAnew.{all_done, all_counted, next_is, part_mixed, all_finds, counted}
+use Rattle.bisync_run.proofs.MadeAnew.{all_done, all_counted, next_is, part_mixed, over_finds, counted}
 
 pub untouched : (a b a2 b2 : RemoteState) → Unchanged a a2 → Unchanged b b2 → AreUntouched (by_side a b) (by_side a2 b2)
 untouched a b a2 b2 one two One = one
@@ -39,6 +40,10 @@ untouched a b a2 b2 one two Two = two
 pub same_windows : (a b a2 b2 : RemoteState) → a2.window ≡ a.window → b2.window ≡ b.window → (side : Side) → (by_side a2 b2 side).window ≡ (by_side a b side).window
 same_windows a b a2 b2 one two One = one
 same_windows a b a2 b2 one two Two = two
+
+-- what was only looked at has the base that it had
+pub looked_base : (mode : Prefer) (limits : Limits) (s : Sides) (f g : WorkFolder) (start now : Remotes) → g ≡ f → AreUntouched start now → LeavesBase mode limits f s start g now
+looked_base mode limits s f g start now same looked base is = inl (subst (λ (h : WorkFolder). IsBase limits.listing h base) (sym same) is, looked)
 
 within : (n limit : ℕ) → n ≤ most limit → n ≤ limit
 within n limit is = grind (arith, common_steps)
@@ -60,6 +65,13 @@ aside_held limit prepared digest f f2 g same out = record {
   two_err = out.two_err ∙ ap (λ (w : WorkFolder). moved_over w.two (moved_over w.two_old w.two_err)) same;
   stored = out.stored ∙ ap (λ (w : WorkFolder). stored digest w.filters_md5) same;
 }
+
+-- each step finds its file on the sides that were looked at, whatever they tell
+pub finds_held : (tells : Side → Bool) (mode : Prefer) (compare : Compare) (rules : List Rule) (a b a2 b2 : RemoteState) (prepared : Prepared)
+    → ((side : Side) → IsTrue (tells side) → (by_side a2 b2 side).tree ≡ (by_side a b side).tree) → ((side : Side) → (by_side a2 b2 side).window ≡ (by_side a b side).window)
+    → IsResyncOver tells mode (sides_of compare rules a b) prepared.plan → FindsAll tells prepared.plan.steps.items (by_side a2 b2)
+finds_held tells mode compare rules a b a2 b2 prepared looked windows plan =
+    finds_past tells (by_side a b) (by_side a2 b2) looked windows prepared.plan.steps.items (over_finds tells mode compare rules a b prepared.plan plan)
 
 module _ (mode : Prefer) (limits : Limits) (compare : Compare) (rules : List Rule) (a b a2 b2 : RemoteState) (f f2 : WorkFolder) (prepared : Prepared)
     (plan : IsResyncOf (resync_known mode (sides_of compare rules a b)) (resync_paths (sides_of compare rules a b)) prepared.plan)
@@ -108,10 +120,6 @@ module _ (mode : Prefer) (limits : Limits) (compare : Compare) (rules : List Rul
   pub trees_held : HasNoResyncRefusal mode limits f s → (now : Remotes) → IsPartDone prepared.plan.steps.items (by_side a2 b2) now → LeavesTrees mode limits f s (by_side a b) now
   trees_held none now part =
       inr (none, part_mixed mode compare rules a b prepared plan now (part_since (by_side a b) (by_side a2 b2) looked windows prepared.plan.steps.items now part))
-
-  -- each step finds its file on the sides that were looked at
-  pub finds_held : FindsAll prepared.plan.steps.items (by_side a2 b2)
-  finds_held = finds_past (by_side a b) (by_side a2 b2) looked windows prepared.plan.steps.items (all_finds mode compare rules a b prepared plan)
 
   pub lines_held : steps_text prepared.plan.steps.items ≡ resync_lines mode s
   lines_held = ap steps_text plan.steps

@@ -1,5 +1,5 @@
 -- What the steps of a resync's plan leave.
-use Rattle.std.proofs.Common.{◌≡◌, ◌⊎◌, ◌∙◌, ◌+◌, ap, refl, sym, subst, inl, inr, List, ℕ, take, sum_by}
+use Rattle.std.proofs.Common.{◌≡◌, ◌⊎◌, ◌∙◌, ◌+◌, ap, refl, sym, subst, inl, inr, Bool, List, ℕ, take, sum_by}
 use Rattle.bisync_tree.specs.Rows.{Rows, listing_of}
 use Rattle.bisync_tree.specs.declared.sides.Side.{Side}
 use Rattle.bisync_tree.specs.declared.sides.Side.TheVariants.{One, Two}
@@ -19,17 +19,20 @@ use Rattle.bisync_model.proofs.ResyncCopies.{resync_run, resync_reaches, resync_
 use Rattle.bisync_model.proofs.CopiesFindFiles.{resync_finds}
 use Rattle.bisync_model.proofs.CopyChanges.{resync_count}
 use Rattle.bisync_plan.specs.Plans.{IsResyncOf, ListsTrees, header_of}
+use Rattle.bisync_plan.specs.declared.plans.Plan.{Plan}
 use Rattle.bisync_plan.proofs.ListedOutcomes.{plan_lists, resync_filtered}
 use Rattle.bisync_device.specs.Remote.{RemoteState}
 use Rattle.bisync_transfer.specs.StepTrees.{AreDone, trees_in}
 use Rattle.bisync_listing.specs.declared.headers.Header.{Header}
 use Rattle.bisync_work.specs.Base.{Base}
+use Rattle.bisync_run.specs.Planned.{IsResyncOver, with_trees}
 use Rattle.bisync_run.specs.Resyncs.{base_of_trees, resync_changes}
 use Rattle.bisync_run.specs.ResyncWriting.{next_base}
 use Rattle.bisync_run.specs.Sides.{Sides, sides_of, start_of, resync_known, resync_paths, resync_end}
 use Rattle.bisync_run.specs.Stepping.{IsPartDone, FindsAll}
 use Rattle.bisync_run.specs.Untouched.{Remotes}
 use Rattle.bisync_run.specs.declared.prepared.Prepared.{Prepared}
+use Rattle.bisync_run.proofs.DoneSteps.{own_trees}
 
 abbrev pub base_with : Header → Rows → Rows → Base
 base_with header one two = record { header = header; one = one; two = two }
@@ -53,17 +56,23 @@ module _ (mode : Prefer) (s : Sides) where
   pub counted : (side : Side) → sum_by (changes_of side) (resync_plan (resync_known mode s) (resync_paths s)) ≡ resync_changes mode s side
   counted side = resync_count (resync_run (resync_known mode s) (start_of s) is_resync.listed) side (resync_paths s)
 
+-- each step finds its file, in trees of which a side that tells has its own
+pub over_finds : (tells : Side → Bool) (mode : Prefer) (compare : Compare) (rules : List Rule) (a b : RemoteState) (made : Plan)
+    → IsResyncOver tells mode (sides_of compare rules a b) made → FindsAll tells made.steps.items (by_side a b)
+over_finds tells mode compare rules a b made x =
+    let over = with_trees (sides_of compare rules a b) x.one x.two in
+    record {
+      policy = (resync_known mode over).policy;
+      trees = start_of over;
+      windows = λ side. refl;
+      own = own_trees tells a b x.one x.two x.own1 x.own2;
+      finds = subst (λ (l : List Step). EachFindsFile (resync_known mode over).policy l (start_of over)) (sym x.plan.steps) (finds mode over);
+    }
+
 module _ (mode : Prefer) (compare : Compare) (rules : List Rule) (a b : RemoteState) (prepared : Prepared)
     (plan : IsResyncOf (resync_known mode (sides_of compare rules a b)) (resync_paths (sides_of compare rules a b)) prepared.plan) where
   abbrev s : Sides
   s = sides_of compare rules a b
-
-  pub all_finds : FindsAll prepared.plan.steps.items (by_side a b)
-  all_finds = record {
-    policy = (resync_known mode s).policy;
-    windows = λ side. refl;
-    finds = subst (λ (l : List Step). EachFindsFile (resync_known mode s).policy l (start_of s)) (sym plan.steps) (finds mode s);
-  }
 
   pub part_mixed : (now : Remotes) → IsPartDone prepared.plan.steps.items (by_side a b) now → IsMixOf (start_of s) (resync_end mode s) (trees_in now)
   part_mixed now part side p =

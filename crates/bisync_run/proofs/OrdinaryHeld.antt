@@ -1,5 +1,5 @@
 -- What an ordinary run that holds the lock leaves, made of what its parts leave.
-use Rattle.std.proofs.Common.{◌≡◌, ◌≢◌, ◌∙◌, ◌++◌, ◌<◌, ◌^◌, ap, subst, sym, inl, inr, ⊎_elim, ℕ, List, Option, Some, sum_by, false}
+use Rattle.std.proofs.Common.{◌≡◌, ◌≢◌, ◌∙◌, ◌++◌, ◌<◌, ◌^◌, ap, subst, sym, inl, inr, ⊎_elim, ℕ, Bool, IsTrue, List, Option, Some, sum_by, false}
 use Rattle.bisync_tree.specs.declared.sides.Side.{Side}
 use Rattle.bisync_tree.specs.declared.sides.Side.TheVariants.{One, Two}
 use Rattle.bisync_tree.specs.declared.options.Limits.{Limits}
@@ -22,7 +22,7 @@ use Rattle.bisync_run.specs.CarryingOut.{AreWithin}
 use Rattle.bisync_run.specs.Courses.{IsLook, course_changes, course_lines}
 use Rattle.bisync_run.specs.Ordinary.{AreCourseLines, IsGoodOrdinaryEnd, IsMadeNext, IsOrdinaryDone, KeepsBaseOrMakesNext, LeavesOrdinaryTrees, but_ordinary}
 use Rattle.bisync_run.specs.OrdinaryChanges.{IsNextSet, IsPrepared, KeepsOrSwitches}
-use Rattle.bisync_run.specs.OrdinaryLooks.{IsPlannedFrom, found_base}
+use Rattle.bisync_run.specs.Planned.{IsPlannedOver}
 use Rattle.bisync_run.specs.Resyncs.{base_of_trees}
 use Rattle.bisync_run.specs.ResyncWriting.{next_base}
 use Rattle.bisync_run.specs.Sides.{Sides, sides_of}
@@ -32,19 +32,18 @@ use Rattle.bisync_run.specs.declared.looks.Look.{Look}
 use Rattle.bisync_run.specs.declared.prepared.Prepared.{Prepared}
 use Rattle.bisync_run.specs.declared.starting.Started.{Started}
 use Rattle.bisync_run.proofs.DoneSteps.{done_since, finds_past, part_since}
-use Rattle.bisync_run.proofs.OrdinaryMade.{all_counted, all_done, all_finds, counted, next_is, part_between}
+use Rattle.bisync_run.proofs.OrdinaryMade.{all_counted, all_done, counted, next_is, over_finds, part_between}
 
 -- what is about to be done, of what was looked at
 abbrev pub prepared_of : ℕ → Look → Prepared
 prepared_of stamp made = record { stamp = stamp; compare = made.compare; plan = made.plan }
 
--- each step finds its file on the sides that were looked at, whatever is told of the work folder
-pub planned_finds : (opts : Opts) (rules : List Rule) (a b a2 b2 : RemoteState) (started : Started) (made : Look)
-    → AreUntouched (by_side a b) (by_side a2 b2) → ((side : Side) → (by_side a2 b2 side).window ≡ (by_side a b side).window)
-    → IsPlannedFrom opts (sides_of opts.compare rules a b) started made.plan → FindsAll made.plan.steps.items (by_side a2 b2)
-planned_finds opts rules a b a2 b2 started made looked windows plan =
-    finds_past (by_side a b) (by_side a2 b2) looked windows made.plan.steps.items
-    (all_finds opts opts.compare rules a b (found_base opts.compare started) plan.names (prepared_of started.stamp made) plan.are plan.steps plan.finals)
+-- each step finds its file on the sides that were looked at, whatever is told
+pub planned_finds : (tells : Side → Bool) (opts : Opts) (rules : List Rule) (a b a2 b2 : RemoteState) (started : Started) (made : Look)
+    → ((side : Side) → IsTrue (tells side) → (by_side a2 b2 side).tree ≡ (by_side a b side).tree) → ((side : Side) → (by_side a2 b2 side).window ≡ (by_side a b side).window)
+    → IsPlannedOver tells opts (sides_of opts.compare rules a b) started made.plan → FindsAll tells made.plan.steps.items (by_side a2 b2)
+planned_finds tells opts rules a b a2 b2 started made looked windows plan =
+    finds_past tells (by_side a b) (by_side a2 b2) looked windows made.plan.steps.items (over_finds tells opts rules a b started made.plan plan)
 
 module _ (opts : Opts) (limits : Limits) (rules : List Rule) (digest : Option (List ℕ)) (a b : RemoteState) (f : WorkFolder) (stamp : ℕ) (pair : Pair) (made : Look)
     (look : IsLook opts limits f (sides_of opts.compare rules a b) digest stamp pair made) where
@@ -70,11 +69,6 @@ module _ (opts : Opts) (limits : Limits) (rules : List Rule) (digest : Option (L
   -- # What is left
 
   module _ (a2 b2 : RemoteState) (looked : AreUntouched (by_side a b) (by_side a2 b2)) (windows : (side : Side) → (by_side a2 b2 side).window ≡ (by_side a b side).window) where
-    -- each step finds its file on the sides that were looked at
-    pub finds_held : FindsAll made.plan.steps.items (by_side a2 b2)
-    finds_held = finds_past (by_side a b) (by_side a2 b2) looked windows made.plan.steps.items
-        (all_finds opts opts.compare rules a b look.course.base look.course.names (prepared_of stamp made) look.course.are look.steps look.finals)
-
     pub trees_held : opts.dry_run ≡ false → (now : Remotes) → IsPartDone made.plan.steps.items (by_side a2 b2) now → LeavesOrdinaryTrees opts limits f s digest (by_side a b) now
     trees_held changing now part = inr (record {
       changing = changing;

@@ -1,5 +1,5 @@
 -- What the steps of an ordinary run's plan leave.
-use Rattle.std.proofs.Common.{◌≡◌, ◌∙◌, ◌+◌, ap, refl, sym, subst, List, ℕ, take, sum_by}
+use Rattle.std.proofs.Common.{◌≡◌, ◌∙◌, ◌+◌, ap, refl, sym, subst, Bool, List, ℕ, take, sum_by}
 use Rattle.bisync_tree.specs.Rows.{Rows, listing_of}
 use Rattle.bisync_tree.specs.Walk.{listings_of}
 use Rattle.bisync_tree.specs.declared.sides.Side.{Side}
@@ -30,18 +30,23 @@ use Rattle.bisync_model.proofs.TreesOfDevices.{same_is_equal}
 use Rattle.bisync_model.proofs.ViewOfTrees.{view_listed}
 use Rattle.bisync_model.proofs.WholePlan.{between, covered_by, distinct-rising, given_ok, reaches}
 use Rattle.bisync_plan.specs.Plans.{HasFinals, ListsTrees, header_of}
+use Rattle.bisync_plan.specs.declared.plans.Plan.{Plan}
 use Rattle.bisync_plan.proofs.ListedOutcomes.{final_filtered, plan_lists}
 use Rattle.bisync_device.specs.Remote.{RemoteState}
 use Rattle.bisync_opts.specs.declared.options.Opts.{Opts}
 use Rattle.bisync_transfer.specs.StepTrees.{AreDone, trees_in}
 use Rattle.bisync_work.specs.Base.{Base}
 use Rattle.bisync_run.specs.Courses.{course_changes, course_end, known_in, paths_through, view_of}
+use Rattle.bisync_run.specs.OrdinaryLooks.{found_base}
+use Rattle.bisync_run.specs.Planned.{IsPlannedOver, with_trees}
 use Rattle.bisync_run.specs.Resyncs.{base_of_trees}
 use Rattle.bisync_run.specs.ResyncWriting.{next_base}
 use Rattle.bisync_run.specs.Sides.{Sides, sides_of, start_of}
 use Rattle.bisync_run.specs.Stepping.{IsPartDone, FindsAll}
 use Rattle.bisync_run.specs.Untouched.{Remotes}
 use Rattle.bisync_run.specs.declared.prepared.Prepared.{Prepared}
+use Rattle.bisync_run.specs.declared.starting.Started.{Started}
+use Rattle.bisync_run.proofs.DoneSteps.{own_trees}
 use Rattle.bisync_run.proofs.MadeAnew.{base_with}
 
 module _ (opts : Opts) (s : Sides) (base : Base) where
@@ -76,19 +81,26 @@ module _ (opts : Opts) (s : Sides) (base : Base) where
     pub counted : (side : Side) → sum_by (changes_of side) steps ≡ course_changes opts s base side
     counted side = plan_count run names named (paths_through s base) side
 
+-- each step finds its file, in trees of which a side that tells has its own
+pub over_finds : (tells : Side → Bool) (opts : Opts) (rules : List Rule) (a b : RemoteState) (started : Started) (made : Plan)
+    → IsPlannedOver tells opts (sides_of opts.compare rules a b) started made → FindsAll tells made.steps.items (by_side a b)
+over_finds tells opts rules a b started made x =
+    let over = with_trees (sides_of opts.compare rules a b) x.one x.two in
+    let base = found_base opts.compare started in
+    record {
+      policy = (known_in opts over base).policy;
+      trees = start_of over;
+      windows = λ side. refl;
+      own = own_trees tells a b x.one x.two x.own1 x.own2;
+      finds = subst (λ (l : List Step). EachFindsFile (known_in opts over base).policy l (start_of over)) (sym x.plan.steps) (finds opts over base x.plan.names x.plan.are);
+    }
+
 module _ (opts : Opts) (compare : Compare) (rules : List Rule) (a b : RemoteState) (base : Base) (names : List Given) (prepared : Prepared)
     (are : AreNames (known_in opts (sides_of compare rules a b) base) (paths_through (sides_of compare rules a b) base) names)
     (planned : prepared.plan.steps.items ≡ plan (known_in opts (sides_of compare rules a b) base) names (paths_through (sides_of compare rules a b) base))
     (finals : HasFinals (final_entry (known_in opts (sides_of compare rules a b) base) names) prepared.plan) where
   abbrev s : Sides
   s = sides_of compare rules a b
-
-  pub all_finds : FindsAll prepared.plan.steps.items (by_side a b)
-  all_finds = record {
-    policy = (known_in opts s base).policy;
-    windows = λ side. refl;
-    finds = subst (λ (l : List Step). EachFindsFile (known_in opts s base).policy l (start_of s)) (sym planned) (finds opts s base names are);
-  }
 
   pub part_between : (now : Remotes) → IsPartDone prepared.plan.steps.items (by_side a b) now → IsBetween (known_in opts s base) (start_of s) names (trees_in now)
   part_between now part =

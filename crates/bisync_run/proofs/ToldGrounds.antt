@@ -19,7 +19,7 @@ use Rattle.bisync_run.specs.Grounds.{IsReadAs, IsTold}
 use Rattle.bisync_run.specs.HeldResyncs.{end_of}
 use Rattle.bisync_run.specs.Looking.{IsWhyUnseen, IsWhyNotBoth, unplanned_end}
 use Rattle.bisync_run.specs.ResyncEnds.{IsUnlockedEnd}
-use Rattle.bisync_run.specs.Stepping.{IsStepEnd, IsDeviceFault, MovedIsRead}
+use Rattle.bisync_run.specs.Stepping.{FindsTold, IsStepEnd, MovedIsRead}
 use Rattle.bisync_run.specs.Untouched.{Remotes}
 
 -- # What was looked at
@@ -29,10 +29,6 @@ seen_as compare passes path listed None is = tt
 seen_as compare passes path listed (Some read) is =
     let some = is.differs.0 in
     (some.bytes, some.entry ∙ sym (λ i. record { size = length some.bytes; time = listed.time; hash = if is_some (is.no_digest i) then Some (md5 some.bytes) else None }))
-
-of_both : (tells : Side → Bool) (side : Side) → IsTrue (tells One) → IsTrue (tells Two) → IsTrue (tells side)
-of_both tells One a b = a
-of_both tells Two a b = b
 
 module _ (tells : Side → Bool) (start : Remotes) where
   module _ (compare : Compare) (passes : PathBytes → Bool) (limits : Limits) (side : Side) where
@@ -62,7 +58,7 @@ module _ (tells : Side → Bool) (start : Remotes) where
     unseen_told (NameTooLong of path) x = absurd x
     unseen_told (ListingTooLong of bytes) x = absurd x
     unseen_told (OutOfSync path one two) x = absurd x
-    unseen_told (Moved of path listed read) x = (λ a b. x.2 (of_both tells side a b), seen_as compare passes path listed read x.1)
+    unseen_told (Moved of path listed read) x = (λ t. x.2 (subst (λ (s : Side). IsTrue (tells s)) x.0 t), seen_as compare passes path listed read x.1)
     unseen_told (SinkFault done) x = absurd x
     unseen_told LockLeft x = absurd x
     unseen_told (FoldersLeft cause) x = absurd x
@@ -86,40 +82,40 @@ module _ (tells : Side → Bool) (start : Remotes) where
 
   -- # What was done
 
-  pub step_told : (end : End) → IsStepEnd end → MovedIsRead end → (IsTrue (tells One) → IsTrue (tells Two) → IsDeviceFault end) → IsTold tells start end
-  step_told (Done one two) x was device = absurd x
-  step_told (Resynced one two) x was device = absurd x
-  step_told DryRun x was device = absurd x
-  step_told InSync x was device = absurd x
-  step_told Demo x was device = absurd x
-  step_told (Usage kind) x was device = absurd x
-  step_told WorkFault x was device = tt
-  step_told NoFilters x was device = absurd x
-  step_told (BadRule line) x was device = absurd x
-  step_told (Locked until) x was device = absurd x
-  step_told (FiltersChanged now stored) x was device = absurd x
-  step_told (BadListing name line) x was device = absurd x
-  step_told (NeedResync need) x was device = absurd x
-  step_told (ListingsDiffer path one two) x was device = absurd x
-  step_told (EmptyPrior of) x was device = absurd x
-  step_told (RemoteFault of) x was device = tt
-  step_told (BadPath of text) x was device = absurd x
-  step_told (TooMany of files bytes) x was device = absurd x
-  step_told (CheckAccess of path) x was device = absurd x
-  step_told (EmptyCurrent of) x was device = absurd x
-  step_told (TooManyDeletes of gone all) x was device = absurd x
-  step_told (AllChanged of all) x was device = absurd x
-  step_told (NameTooLong of path) x was device = absurd x
-  step_told (ListingTooLong of bytes) x was device = absurd x
-  step_told (OutOfSync path one two) x was device = absurd x
-  step_told (Moved of path listed read) x was device = (device, was)
-  step_told (SinkFault done) x was device = absurd x
-  step_told LockLeft x was device = absurd x
-  step_told (FoldersLeft cause) x was device = absurd x
-  step_told (KeepFault of) x was device = absurd x
-  step_told (Checked differ) x was device = absurd x
-  step_told NotBuilt x was device = absurd x
-  step_told OutOfMemory x was device = absurd x
+  pub step_told : (end : End) → IsStepEnd end → MovedIsRead end → FindsTold tells end → IsTold tells start end
+  step_told (Done one two) x was found = absurd x
+  step_told (Resynced one two) x was found = absurd x
+  step_told DryRun x was found = absurd x
+  step_told InSync x was found = absurd x
+  step_told Demo x was found = absurd x
+  step_told (Usage kind) x was found = absurd x
+  step_told WorkFault x was found = tt
+  step_told NoFilters x was found = absurd x
+  step_told (BadRule line) x was found = absurd x
+  step_told (Locked until) x was found = absurd x
+  step_told (FiltersChanged now stored) x was found = absurd x
+  step_told (BadListing name line) x was found = absurd x
+  step_told (NeedResync need) x was found = absurd x
+  step_told (ListingsDiffer path one two) x was found = absurd x
+  step_told (EmptyPrior of) x was found = absurd x
+  step_told (RemoteFault of) x was found = tt
+  step_told (BadPath of text) x was found = absurd x
+  step_told (TooMany of files bytes) x was found = absurd x
+  step_told (CheckAccess of path) x was found = absurd x
+  step_told (EmptyCurrent of) x was found = absurd x
+  step_told (TooManyDeletes of gone all) x was found = absurd x
+  step_told (AllChanged of all) x was found = absurd x
+  step_told (NameTooLong of path) x was found = absurd x
+  step_told (ListingTooLong of bytes) x was found = absurd x
+  step_told (OutOfSync path one two) x was found = absurd x
+  step_told (Moved of path listed read) x was found = (found, was)
+  step_told (SinkFault done) x was found = absurd x
+  step_told LockLeft x was found = absurd x
+  step_told (FoldersLeft cause) x was found = absurd x
+  step_told (KeepFault of) x was found = absurd x
+  step_told (Checked differ) x was found = absurd x
+  step_told NotBuilt x was found = absurd x
+  step_told OutOfMemory x was found = absurd x
 
   -- # The close and the last line
 

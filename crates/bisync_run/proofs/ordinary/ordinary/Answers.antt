@@ -6,11 +6,12 @@ use Rattle.bisync_run.specs.Counts.{counts}
 use Rattle.bisync_run.specs.Sides.{compare_in, sides_of}
 use Rattle.bisync_run.proofs.BeginningLaws.{begun_by, compared_begins, compared_begun, look_begins, start_begins, step_begins}
 use Rattle.bisync_run.proofs.CauseLaws.{fails}
-use Rattle.bisync_run.proofs.EndCases.{step_may_change}
+use Rattle.bisync_run.proofs.DoneSteps.{looked_told}
+use Rattle.bisync_run.proofs.EndCases.{step_may_change, told_device}
 use Rattle.bisync_run.proofs.HeldLaws.{untouched, same_windows, are_within}
 use Rattle.bisync_run.proofs.OrdinaryCauses.{done_same, lock_new_held, since, stopped, sunk, told_same, unsunk, well, work_same}
 use Rattle.bisync_run.proofs.OrdinaryEndCases.{compared_causes, compared_tells, device_answers, not_only, only_is, start_answers, step_kind}
-use Rattle.bisync_run.proofs.OrdinaryHeld.{base_held, done_held, finds_held, numbers_held, planned_finds, prepared_held, prepared_of, told_held, trees_held}
+use Rattle.bisync_run.proofs.OrdinaryHeld.{base_held, done_held, numbers_held, planned_finds, prepared_held, prepared_of, told_held, trees_held}
 use Rattle.bisync_run.proofs.ToldGrounds.{step_told}
 use Rattle.bisync_run.proofs.ordinary.ordinary.Goals as goal
 
@@ -265,13 +266,12 @@ returns-clause-answers g c one two work =
     let b = g.B.Remote.state c.args.two.now in
     let a2 = g.A.Remote.state c.look_ordinary.new.one in
     let b2 = g.B.Remote.state c.look_ordinary.new.two in
-    let looked = untouched a b a2 b2 (c.in-Ok-look_ordinary.ensures.one.tree one) (c.in-Ok-look_ordinary.ensures.two.tree two) in
     let windows = same_windows a b a2 b2 c.in-Ok-look_ordinary.ensures.one.window c.in-Ok-look_ordinary.ensures.two.window in
-    let f = (g.W.Work.state c.args.work.now).folder in
-    let more = not_only c.args.opts.now.check_sync (sym c.is_only.ensures ∙ c.if-is_only.false) in
-    let look = c.in-Ok-look_ordinary.ensures.look one two f c.args.entered.now.digest (c.in-Ok.ensures.starts work) more in
-    device_answers c.args.opts.now c.args.limits.now f _ c.args.entered.now.digest c.in-Err-carry_out_ordinary.end
-    (c.in-Err-carry_out_ordinary.ensures.found one two (finds_held c.args.opts.now c.args.limits.now c.args.entered.now.rules c.args.entered.now.digest a b f c.in-Ok.started.stamp c.in-Ok.started.pair c.in-Ok-look_ordinary.look look a2 b2 looked windows))
+    let found = c.in-Err-carry_out_ordinary.ensures.found
+    (planned_finds (by_side g.A.Remote.tells g.B.Remote.tells) c.args.opts.now c.args.entered.now.rules a b a2 b2 c.in-Ok.started c.in-Ok-look_ordinary.look
+    (looked_told g.A.Remote.tells g.B.Remote.tells a b a2 b2 c.in-Ok-look_ordinary.ensures.one.tree c.in-Ok-look_ordinary.ensures.two.tree) windows c.in-Ok-look_ordinary.ensures.planned) in
+    device_answers c.args.opts.now c.args.limits.now (g.W.Work.state c.args.work.now).folder _ c.args.entered.now.digest c.in-Err-carry_out_ordinary.end
+    (told_device (by_side g.A.Remote.tells g.B.Remote.tells) one two c.in-Err-carry_out_ordinary.end c.in-Err-carry_out_ordinary.ensures.end found)
 
 pub returns-clause-lock_new : goal.returns-clause-lock_new
 returns-clause-lock_new g c work never =
@@ -295,9 +295,9 @@ returns-clause-told g c =
     let b2 = g.B.Remote.state c.look_ordinary.new.two in
     let windows = same_windows a b a2 b2 c.in-Ok-look_ordinary.ensures.one.window c.in-Ok-look_ordinary.ensures.two.window in
     step_told (by_side g.A.Remote.tells g.B.Remote.tells) (by_side a b) c.in-Err-carry_out_ordinary.end c.in-Err-carry_out_ordinary.ensures.end c.in-Err-carry_out_ordinary.ensures.read
-    (λ one two. c.in-Err-carry_out_ordinary.ensures.found one two
-    (planned_finds c.args.opts.now c.args.entered.now.rules a b a2 b2 c.in-Ok.started c.in-Ok-look_ordinary.look
-    (untouched a b a2 b2 (c.in-Ok-look_ordinary.ensures.one.tree one) (c.in-Ok-look_ordinary.ensures.two.tree two)) windows (c.in-Ok-look_ordinary.ensures.planned one two)))
+    (c.in-Err-carry_out_ordinary.ensures.found
+    (planned_finds (by_side g.A.Remote.tells g.B.Remote.tells) c.args.opts.now c.args.entered.now.rules a b a2 b2 c.in-Ok.started c.in-Ok-look_ordinary.look
+    (looked_told g.A.Remote.tells g.B.Remote.tells a b a2 b2 c.in-Ok-look_ordinary.ensures.one.tree c.in-Ok-look_ordinary.ensures.two.tree) windows c.in-Ok-look_ordinary.ensures.planned))
 
 pub returns-clause-causes : goal.returns-clause-causes
 returns-clause-causes g c =

@@ -1,10 +1,39 @@
 use Rattle.std.proofs.Common.{◌++◌, ◌<◌, ◌^◌, ◌∙◌, ap, refl, inr, arith, ℕ, List}
 use Rattle.bisync_tree.specs.declared.sides.Side.TheVariants.{One, Two}
 use Rattle.bisync_model.specs.Trees.{by_side}
-use Rattle.bisync_run.proofs.EndCases.{device_answers, step_may_change}
-use Rattle.bisync_run.proofs.HeldLaws.{untouched, same_windows, are_within, aside_held, base_held, done_held, trees_held, finds_held, lines_held, numbers_held}
+use Rattle.bisync_run.specs.Sides.{sides_of}
+use Rattle.bisync_run.proofs.DoneSteps.{looked_told}
+use Rattle.bisync_run.proofs.EndCases.{device_answers, step_may_change, told_device}
+use Rattle.bisync_run.proofs.HeldLaws.{untouched, same_windows, looked_base, are_within, aside_held, base_held, done_held, trees_held, finds_held, lines_held, numbers_held}
 use Rattle.bisync_run.proofs.ToldGrounds.{step_told}
 use Rattle.bisync_run.proofs.resyncs.resync.Goals as goal
+
+pub returns-in_default-clause-base : goal.returns-in_default-clause-base
+returns-in_default-clause-base g c one two work =
+    let a = g.A.Remote.state c.args.one.now in
+    let b = g.B.Remote.state c.args.two.now in
+    let a2 = g.A.Remote.state c.look_resync.new.one in
+    let b2 = g.B.Remote.state c.look_resync.new.two in
+    looked_base c.args.mode c.args.limits.now (sides_of c.args.opts.now.compare c.args.entered.now.rules a b) (g.W.Work.state c.args.work.now).folder (g.W.Work.state c.look_resync.new.work).folder (by_side a b) (by_side a2 b2)
+    (c.in-Ok.ensures.folder work) (untouched a b a2 b2 (c.in-Ok.ensures.one.tree one) (c.in-Ok.ensures.two.tree two))
+
+pub returns-in-Err-plan_lines-clause-base : goal.returns-in-Err-plan_lines-clause-base
+returns-in-Err-plan_lines-clause-base g c one two work =
+    let a = g.A.Remote.state c.args.one.now in
+    let b = g.B.Remote.state c.args.two.now in
+    let a2 = g.A.Remote.state c.look_resync.new.one in
+    let b2 = g.B.Remote.state c.look_resync.new.two in
+    looked_base c.args.mode c.args.limits.now (sides_of c.args.opts.now.compare c.args.entered.now.rules a b) (g.W.Work.state c.args.work.now).folder (g.W.Work.state c.look_resync.new.work).folder (by_side a b) (by_side a2 b2)
+    (c.in-Ok.ensures.folder work) (untouched a b a2 b2 (c.in-Ok.ensures.one.tree one) (c.in-Ok.ensures.two.tree two))
+
+pub returns-then-opts-clause-base : goal.returns-then-opts-clause-base
+returns-then-opts-clause-base g c one two work =
+    let a = g.A.Remote.state c.args.one.now in
+    let b = g.B.Remote.state c.args.two.now in
+    let a2 = g.A.Remote.state c.look_resync.new.one in
+    let b2 = g.B.Remote.state c.look_resync.new.two in
+    looked_base c.args.mode c.args.limits.now (sides_of c.args.opts.now.compare c.args.entered.now.rules a b) (g.W.Work.state c.args.work.now).folder (g.W.Work.state c.look_resync.new.work).folder (by_side a b) (by_side a2 b2)
+    (c.in-Ok.ensures.folder work) (untouched a b a2 b2 (c.in-Ok.ensures.one.tree one) (c.in-Ok.ensures.two.tree two))
 
 pub returns-in-Ok-carry_out-clause-base : goal.returns-in-Ok-carry_out-clause-base
 returns-in-Ok-carry_out-clause-base g c one two work =
@@ -109,12 +138,12 @@ returns-clause-answers g c one two work =
     let b = g.B.Remote.state c.args.two.now in
     let a2 = g.A.Remote.state c.look_resync.new.one in
     let b2 = g.B.Remote.state c.look_resync.new.two in
-    let looked = untouched a b a2 b2 (c.in-Ok.ensures.one.tree one) (c.in-Ok.ensures.two.tree two) in
     let windows = same_windows a b a2 b2 c.in-Ok.ensures.one.window c.in-Ok.ensures.two.window in
-    let f = (g.W.Work.state c.args.work.now).folder in
-    let f2 = (g.W.Work.state c.look_resync.new.work).folder in
-    device_answers c.args.mode c.args.limits.now f _ c.in-Err-carry_out.end
-    (c.in-Err-carry_out.ensures.found one two (finds_held c.args.mode c.args.limits.now c.args.opts.now.compare c.args.entered.now.rules a b a2 b2 f f2 c.in-Ok.prepared (c.in-Ok.ensures.plan one two) looked windows (c.in-Ok.ensures.folder work)))
+    let found = c.in-Err-carry_out.ensures.found
+    (finds_held (by_side g.A.Remote.tells g.B.Remote.tells) c.args.mode c.args.opts.now.compare c.args.entered.now.rules a b a2 b2 c.in-Ok.prepared
+    (looked_told g.A.Remote.tells g.B.Remote.tells a b a2 b2 c.in-Ok.ensures.one.tree c.in-Ok.ensures.two.tree) windows c.in-Ok.ensures.over) in
+    device_answers c.args.mode c.args.limits.now (g.W.Work.state c.args.work.now).folder _ c.in-Err-carry_out.end
+    (told_device (by_side g.A.Remote.tells g.B.Remote.tells) one two c.in-Err-carry_out.end c.in-Err-carry_out.ensures.end found)
 
 pub returns-clause-told : goal.returns-clause-told
 returns-clause-told g c =
@@ -123,11 +152,10 @@ returns-clause-told g c =
     let a2 = g.A.Remote.state c.look_resync.new.one in
     let b2 = g.B.Remote.state c.look_resync.new.two in
     let windows = same_windows a b a2 b2 c.in-Ok.ensures.one.window c.in-Ok.ensures.two.window in
-    let f = (g.W.Work.state c.args.work.now).folder in
     step_told (by_side g.A.Remote.tells g.B.Remote.tells) (by_side a b) c.in-Err-carry_out.end c.in-Err-carry_out.ensures.end c.in-Err-carry_out.ensures.read
-    (λ one two. c.in-Err-carry_out.ensures.found one two
-    (finds_held c.args.mode c.args.limits.now c.args.opts.now.compare c.args.entered.now.rules a b a2 b2 f f c.in-Ok.prepared (c.in-Ok.ensures.plan one two)
-    (untouched a b a2 b2 (c.in-Ok.ensures.one.tree one) (c.in-Ok.ensures.two.tree two)) windows refl))
+    (c.in-Err-carry_out.ensures.found
+    (finds_held (by_side g.A.Remote.tells g.B.Remote.tells) c.args.mode c.args.opts.now.compare c.args.entered.now.rules a b a2 b2 c.in-Ok.prepared
+    (looked_told g.A.Remote.tells g.B.Remote.tells a b a2 b2 c.in-Ok.ensures.one.tree c.in-Ok.ensures.two.tree) windows c.in-Ok.ensures.over))
 
 pub returns-clause-report : goal.returns-clause-report
 returns-clause-report g c one two sink =
