@@ -1,6 +1,6 @@
 //! The top call.
 
-ghost use Rattle.std.specs.Prelude.{◌≡◌, ◌≢◌, ◌++◌, ◌||◌, ℕ, List, [], Option, IsTrue, None, Some, true, false};
+ghost use Rattle.std.specs.Prelude.{◌≡◌, ◌≢◌, ◌++◌, ◌||◌, ℕ, List, Option, IsTrue, None, Some, true, false};
 ghost use Rattle.bisync_tree.specs.Rows.{PathBytes};
 ghost use Rattle.bisync_tree.specs.declared.entries.Entry.{Entry};
 ghost use Rattle.bisync_tree.specs.declared.options.Prefer.{Prefer};

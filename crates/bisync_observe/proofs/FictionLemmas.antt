@@ -8,7 +8,7 @@ use Rattle.std.specs.FinMap as finmap
 use Rattle.std.specs.FinMap.{get-empty, get-insert}
 use Rattle.std.specs.Prelude.{bytes_eq, is_some, option_map, pos}
 use Rattle.md5.specs.Md5.{md5}
-use Rattle.bisync_tree.specs.Rows.{PathBytes, Rows, keys, look, is_among, AreRising, listing_of, paths_in}
+use Rattle.bisync_tree.specs.Rows.{PathBytes, Rows, look, is_among, listing_of, paths_in}
 use Rattle.bisync_tree.specs.Tree.{Tree, file_at, put, entry}
 use Rattle.bisync_tree.specs.declared.entries.Compare.{Compare}
 use Rattle.bisync_tree.specs.declared.entries.Entry.{Entry}
@@ -21,7 +21,6 @@ use Rattle.bisync_tree.proofs.RisingLemmas.{rising_same}
 use Rattle.bisync_observe.specs.Listed.{HaveNoDigests}
 use Rattle.bisync_observe.specs.Observing.{IsSeenOf}
 use Rattle.bisync_observe.specs.Seeing.{IsSeen, IsEntryOf, IsEntryFor}
-use Rattle.bisync_observe.specs.Tally.{entry_of_bytes}
 
 -- A TREE WITH A FILE FOR EACH NAME
 

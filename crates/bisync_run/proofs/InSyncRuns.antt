@@ -1,12 +1,12 @@
 -- That both trees agree after a run, and that its base did not where it was refused as out of sync.
-use Rattle.std.proofs.Common.{◌⊎◌, ◌∙◌, ℕ, ℤ, Bool, IsTrue, Option, ap, subst, sym, ⊎_elim, inl, inr}
+use Rattle.std.proofs.Common.{◌⊎◌, ℤ, Bool, IsTrue, Option, ap, subst, sym, inl, inr}
 use Rattle.bisync_tree.specs.Rows.{PathBytes}
 use Rattle.bisync_tree.specs.declared.entries.Entry.{Entry}
 use Rattle.bisync_tree.specs.declared.options.Limits.{Limits}
 use Rattle.bisync_tree.specs.declared.options.Prefer.{Prefer}
 use Rattle.bisync_tree.specs.declared.sides.Side.TheVariants.{One, Two}
 use Rattle.bisync_model.specs.Entries.{AgreeWherePassing, entries_of}
-use Rattle.bisync_model.specs.Trees.{SameTrees, Trees}
+use Rattle.bisync_model.specs.Trees.{Trees}
 use Rattle.bisync_model.proofs.TreesOfDevices.{same_is_equal}
 use Rattle.bisync_device.specs.WorkFolder.{WorkFolder}
 use Rattle.bisync_opts.specs.declared.options.Opts.{Opts}

@@ -1,5 +1,5 @@
 -- What a look alone tells of the beginning of the run, once the lock is freed.
-use Rattle.std.proofs.Common.{◌≡◌, ◌≢◌, subst, sym, inl, inr, Bool, ℕ, ℤ, List, Option, Result, Ok, Err}
+use Rattle.std.proofs.Common.{◌≢◌, subst, sym, inl, inr, Bool, ℕ, ℤ, List, Option, Result, Ok, Err}
 use Rattle.std.specs.Prelude.{IfErr, OnOk}
 use Rattle.bisync_tree.specs.declared.entries.Compare.{Compare}
 use Rattle.bisync_tree.specs.declared.options.Limits.{Limits}

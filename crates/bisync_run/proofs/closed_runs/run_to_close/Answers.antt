@@ -1,4 +1,4 @@
-use Rattle.std.proofs.Common.{◌∙◌, [], ap, inl, inr, subst, sym, ⊎_elim, ℤ}
+use Rattle.std.proofs.Common.{◌∙◌, [], ap, inl, inr, subst, sym, ⊎_elim}
 use Rattle.std.proofs.lemmas.List.{append-nil}
 use Rattle.bisync_device.specs.WorkFolder.{WorkFolder}
 use Rattle.bisync_model.specs.Trees.{by_side}
