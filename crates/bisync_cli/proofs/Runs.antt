@@ -9,6 +9,7 @@ use Rattle.bisync_opts.specs.declared.options.Opts.{Opts}
 use Rattle.bisync_report.specs.declared.ends.End.{End}
 use Rattle.bisync_report.specs.declared.ends.End.TheVariants.{Done, Resynced, DryRun, InSync, Demo, Usage, WorkFault, NoFilters, BadRule, Locked, FiltersChanged, BadListing, NeedResync, ListingsDiffer, EmptyPrior, RemoteFault, BadPath, TooMany, CheckAccess, EmptyCurrent, TooManyDeletes, AllChanged, NameTooLong, ListingTooLong, OutOfSync, Moved, SinkFault, LockLeft, FoldersLeft, KeepFault, Checked, NotBuilt, OutOfMemory}
 use Rattle.bisync_run.specs.Counts.{Counts, Ends}
+use Rattle.bisync_run.specs.FolderBases.{LeavesFolderBase}
 use Rattle.bisync_run.specs.OrdinaryRuns.{KeepsOrdinaryBaseOf, KeepsSafe, LeavesOrdinaryBaseOf}
 use Rattle.bisync_run.specs.ResyncRuns.{LeavesBaseOf}
 use Rattle.bisync_run.specs.Untouched.{Remotes}
@@ -18,15 +19,15 @@ use Rattle.bisync_run.proofs.ToldEnds.{images, image_keeps}
 use Rattle.bisync_cli.specs.declared.tasks.Task.{Task}
 use Rattle.bisync_cli.specs.declared.tasks.Task.TheVariants.{Run, NotBuilt as NoTask}
 use Rattle.bisync_cli.specs.Ends.{IsRunEnd, EndsBy}
-use Rattle.bisync_cli.specs.Tasks.{OfRun}
+use Rattle.bisync_cli.specs.Tasks.{OfTask}
 
 -- what holds by the options that were read is said of the run
-pub of_run : (read : Result Task UsageKind) (Says : Opts → Type 0) (task : Task) (opts : Opts) → read ≡ Ok task → task ≡ Run opts → Says opts → OfRun read Says
-of_run read Says task opts is asks says = subst (λ (r : Result Task UsageKind). OfRun r Says) (sym (is ∙ ap Ok asks)) says
+pub of_run : (read : Result Task UsageKind) (Says : Opts → Type 0) (task : Task) (opts : Opts) → read ≡ Ok task → task ≡ Run opts → Says opts → OfTask read Says
+of_run read Says task opts is asks says = subst (λ (r : Result Task UsageKind). OfTask r Says) (sym (is ∙ ap Ok asks)) says
 
 -- an image of an untouched folder has its base, by any options
 pub images_same : (read : Result Task UsageKind) (One Two Works : Type 0) (limits : Limits) (f : WorkFolder) (start : Remotes)
-    → OfRun read (λ opts. One → Two → Works → (mode : Prefer) → opts.resync ≡ Some mode → IsSettled f → (image : WorkFolder) → IsImage f image
+    → OfTask read (λ opts. One → Two → Works → (mode : Prefer) → opts.resync ≡ Some mode → IsSettled f → (image : WorkFolder) → IsImage f image
     → LeavesBaseOf mode opts limits f start image start)
 images_same (Ok (Run opts)) One Two Works limits f start =
     λ one two work mode is settled image image_is. images mode opts limits f start f image start (λ base was. inl (was, untouched_same start)) settled image_is
@@ -35,22 +36,29 @@ images_same (Err kind) One Two Works limits f start = tt
 
 -- the same of an ordinary run
 pub run_images_same : (read : Result Task UsageKind) (One Two Works : Type 0) (limits : Limits) (f : WorkFolder) (start : Remotes)
-    → OfRun read (λ opts. opts.resync ≡ None → One → Two → Works → IsSettled f → (image : WorkFolder) → IsImage f image
+    → OfTask read (λ opts. opts.resync ≡ None → One → Two → Works → IsSettled f → (image : WorkFolder) → IsImage f image
     → LeavesOrdinaryBaseOf opts limits f start image start)
 run_images_same (Ok (Run opts)) One Two Works limits f start = λ none one two work settled image image_is base was. inl ((image_keeps limits.listing f image settled image_is).base base was)
 run_images_same (Ok NoTask) One Two Works limits f start = tt
 run_images_same (Err kind) One Two Works limits f start = tt
 
 pub kept_images_same : (read : Result Task UsageKind) (One Two Works : Type 0) (limits : Limits) (f : WorkFolder) (start : Remotes)
-    → OfRun read (λ opts. opts.resync ≡ None → One → Two → Works → (opts.resilient || opts.dry_run) ≡ true → IsSettled f → (image : WorkFolder) → IsImage f image
+    → OfTask read (λ opts. opts.resync ≡ None → One → Two → Works → (opts.resilient || opts.dry_run) ≡ true → IsSettled f → (image : WorkFolder) → IsImage f image
     → KeepsOrdinaryBaseOf opts limits f start image start)
 kept_images_same (Ok (Run opts)) One Two Works limits f start = λ none one two work stays settled image image_is base was. inl ((image_keeps limits.listing f image settled image_is).base base was)
 kept_images_same (Ok NoTask) One Two Works limits f start = tt
 kept_images_same (Err kind) One Two Works limits f start = tt
 
+-- the same, as the work folder alone tells it
+pub folder_images_same : (read : Result Task UsageKind) (Works : Type 0) (limits : Limits) (f : WorkFolder) (start : Remotes)
+    → OfTask read (λ opts. Works → IsSettled f → (image : WorkFolder) → IsImage f image → LeavesFolderBase opts limits f start image)
+folder_images_same (Ok (Run opts)) Works limits f start = λ work settled image image_is base was. inl ((image_keeps limits.listing f image settled image_is).base base was)
+folder_images_same (Ok NoTask) Works limits f start = tt
+folder_images_same (Err kind) Works limits f start = tt
+
 -- what is safe in an untouched folder is safe in its images
 pub safe_same : (read : Result Task UsageKind) (One Two Works : Type 0) (limits : Limits) → limits.listing < 2 ^ 64 → (f : WorkFolder) (start : Remotes)
-    → OfRun read (λ opts. opts.resync ≡ None → One → Two → Works → IsSettled f → (image : WorkFolder) → IsImage f image → KeepsSafe opts limits f start image start)
+    → OfTask read (λ opts. opts.resync ≡ None → One → Two → Works → IsSettled f → (image : WorkFolder) → IsImage f image → KeepsSafe opts limits f start image start)
 safe_same (Ok (Run opts)) One Two Works limits small f start = λ none one two work settled image image_is.
     keeps_safe opts limits small f start false (pos 0) image start (λ base was. inl ((image_keeps limits.listing f image settled image_is).base base was)) (inl (untouched_same start))
 safe_same (Ok NoTask) One Two Works limits small f start = tt

@@ -61,11 +61,15 @@ abbrev pub IsTaskInRange : Task → Type 0
 IsTaskInRange (Run opts) = IsInRange opts
 IsTaskInRange NotBuilt = ⊤
 
--- what is said of the run that words ask for, with its options
-abbrev pub OfRun : Result Task UsageKind → (Opts → Type 0) → Type 0
-OfRun (Ok (Run opts)) Says = Says opts
-OfRun (Ok NotBuilt) Says = ⊤
-OfRun (Err kind) Says = ⊤
+-- what is said of the run that words which are read so ask for, with its options
+abbrev pub OfTask : Result Task UsageKind → (Opts → Type 0) → Type 0
+OfTask (Ok (Run opts)) Says = Says opts
+OfTask (Ok NotBuilt) Says = ⊤
+OfTask (Err kind) Says = ⊤
+
+-- and of the run that words ask for
+abbrev pub OfRun : List (List ℕ) → (Opts → Type 0) → Type 0
+OfRun words Says = OfTask (task_in words) Says
 
 -- whether words that are read so ask for a run
 abbrev pub is_run : Result Task UsageKind → Bool

@@ -19,6 +19,7 @@ ghost use Rattle.bisync_run.specs.Closing.{HasNoListings, but_fallen_or_lock};
 ghost use Rattle.bisync_run.specs.Counts.{counts, Later, Ends};
 ghost use Rattle.bisync_run.specs.EndKinds.{is_good, is_after_good, has_freed, is_before_lock, is_unlocked, lets_fall, may_have_changed, may_tell_plan};
 ghost use Rattle.bisync_run.specs.Entering.{AtMoment, HasSomeRules, IsEntryEnd, IsHeldBack};
+ghost use Rattle.bisync_run.specs.FolderBases.{LeavesFolderBase, LeavesNextInPlace, Writes};
 ghost use Rattle.bisync_run.specs.Grounds.{HasGrounds, IsTold};
 ghost use Rattle.bisync_run.specs.LockNew.{KeepsLockNew};
 ghost use Rattle.bisync_run.specs.Ordinary.{but_ordinary_or_fallen};
@@ -40,8 +41,8 @@ use bisync_text::Text;
 use bisync_tree::Limits;
 use std::alloc::Global;
 
-/// Does what the words ask for, all that the program does. `keep1` and `keep2` are the remotes of the
-/// backup folders, which nothing touches yet.
+/// Does what the words ask for. `keep1` and `keep2` are the remotes of the backup folders, which
+/// nothing touches yet.
 pub fn bisync_main<A: Folders, B: Folders, K: Remote, L: Remote, W: Work, C: Clock, S: Sink>(
     alloc: Global,
     words: &[Text],
@@ -63,79 +64,77 @@ pub fn bisync_main<A: Folders, B: Folders, K: Remote, L: Remote, W: Work, C: Clo
     ensures clock { asks_run words.now ≡ false → clock.new ≡ clock.old }
     ensures told { asks_run words.now ≡ false → IsTrue S.tells → (Rose (S.state sink.old).faults (S.state sink.new).faults → ⊥) →
         (S.state sink.new).bytes ≡ (S.state sink.old).bytes ++ last_text result.end }
-    ensures answers { OfRun (task_in words.now) (λ opts. IsTrue A.tells → IsTrue B.tells → IsTrue W.tells → (mode : Prefer) → opts.resync ≡ Some mode →
+    ensures answers { OfRun words.now (λ opts. IsTrue A.tells → IsTrue B.tells → IsTrue W.tells → (mode : Prefer) → opts.resync ≡ Some mode →
         AnswersRun mode opts Limits.REAL (W.state work.old).folder (by_side (A.state one.old) (B.state two.old)) C.tells (C.moment clock.old) result.end) }
-    ensures accepted { OfRun (task_in words.now) (λ opts. IsTrue A.tells → IsTrue B.tells → IsTrue W.tells → (mode : Prefer) → opts.resync ≡ Some mode → is_after_good result.end ≡ true →
+    ensures accepted { OfRun words.now (λ opts. IsTrue A.tells → IsTrue B.tells → IsTrue W.tells → (mode : Prefer) → opts.resync ≡ Some mode → is_after_good result.end ≡ true →
         HasNoRefusal mode opts Limits.REAL (W.state work.old).folder (by_side (A.state one.old) (B.state two.old)) C.tells (C.moment clock.old)) }
-    ensures resynced { OfRun (task_in words.now) (λ opts. IsTrue A.tells → IsTrue B.tells → IsTrue W.tells → (mode : Prefer) → opts.resync ≡ Some mode → opts.dry_run ≡ false → is_after_good result.end ≡ true →
+    ensures resynced { OfRun words.now (λ opts. IsTrue A.tells → IsTrue B.tells → IsTrue W.tells → (mode : Prefer) → opts.resync ≡ Some mode → opts.dry_run ≡ false → is_after_good result.end ≡ true →
         IsResyncedBy mode opts Limits.REAL (W.state work.old).folder (by_side (A.state one.old) (B.state two.old)) (W.state work.new).folder (by_side (A.state one.new) (B.state two.new))) }
-    ensures set_aside { OfRun (task_in words.now) (λ opts. IsTrue W.tells → (mode : Prefer) → opts.resync ≡ Some mode → opts.dry_run ≡ false → is_after_good result.end ≡ true →
+    ensures set_aside { OfRun words.now (λ opts. IsTrue W.tells → (mode : Prefer) → opts.resync ≡ Some mode → opts.dry_run ≡ false → is_after_good result.end ≡ true →
         AreSetAsideBy opts (W.state work.old).folder (W.state work.new).folder) }
-    ensures only { OfRun (task_in words.now) (λ opts. (mode : Prefer) → opts.resync ≡ Some mode → IsResyncEnd opts result.end) }
-    ensures numbers { OfRun (task_in words.now) (λ opts. IsTrue A.tells → IsTrue B.tells → IsTrue W.tells → (mode : Prefer) → opts.resync ≡ Some mode →
+    ensures only { OfRun words.now (λ opts. (mode : Prefer) → opts.resync ≡ Some mode → IsResyncEnd opts result.end) }
+    ensures numbers { OfRun words.now (λ opts. IsTrue A.tells → IsTrue B.tells → IsTrue W.tells → (mode : Prefer) → opts.resync ≡ Some mode →
         is_good result.end ≡ true → HasNumbers mode opts (W.state work.old).folder (by_side (A.state one.old) (B.state two.old)) result.end) }
-    ensures base { OfRun (task_in words.now) (λ opts. IsTrue A.tells → IsTrue B.tells → IsTrue W.tells → (mode : Prefer) → opts.resync ≡ Some mode →
+    ensures base { OfRun words.now (λ opts. IsTrue A.tells → IsTrue B.tells → IsTrue W.tells → (mode : Prefer) → opts.resync ≡ Some mode →
         LeavesBaseOf mode opts Limits.REAL (W.state work.old).folder (by_side (A.state one.old) (B.state two.old)) (W.state work.new).folder (by_side (A.state one.new) (B.state two.new))) }
-    ensures images { OfRun (task_in words.now) (λ opts. IsTrue A.tells → IsTrue B.tells → IsTrue W.tells → (mode : Prefer) → opts.resync ≡ Some mode →
+    ensures images { OfRun words.now (λ opts. IsTrue A.tells → IsTrue B.tells → IsTrue W.tells → (mode : Prefer) → opts.resync ≡ Some mode →
         IsSettled (W.state work.old).folder → (image : WorkFolder) → IsImage (W.state work.new).folder image → LeavesBaseOf mode opts Limits.REAL (W.state work.old).folder (by_side (A.state one.old) (B.state two.old)) image (by_side (A.state one.new) (B.state two.new))) }
-    ensures trees { OfRun (task_in words.now) (λ opts. IsTrue A.tells → IsTrue B.tells → IsTrue W.tells → (mode : Prefer) → opts.resync ≡ Some mode →
+    ensures trees { OfRun words.now (λ opts. IsTrue A.tells → IsTrue B.tells → IsTrue W.tells → (mode : Prefer) → opts.resync ≡ Some mode →
         LeavesTreesOf mode opts Limits.REAL (W.state work.old).folder (by_side (A.state one.old) (B.state two.old)) C.tells (C.moment clock.old) (by_side (A.state one.new) (B.state two.new))) }
-    ensures run_answers { OfRun (task_in words.now) (λ opts. opts.resync ≡ None → IsTrue A.tells → IsTrue B.tells → IsTrue W.tells →
+    ensures run_answers { OfRun words.now (λ opts. opts.resync ≡ None → IsTrue A.tells → IsTrue B.tells → IsTrue W.tells →
         AnswersOrdinaryRun opts Limits.REAL (W.state work.old).folder (by_side (A.state one.old) (B.state two.old)) C.tells (C.moment clock.old) result.end) }
-    ensures unrefused { OfRun (task_in words.now) (λ opts. opts.resync ≡ None → IsTrue A.tells → IsTrue B.tells → IsTrue W.tells → is_after_good result.end ≡ true →
+    ensures unrefused { OfRun words.now (λ opts. opts.resync ≡ None → IsTrue A.tells → IsTrue B.tells → IsTrue W.tells → is_after_good result.end ≡ true →
         IsUnrefused opts Limits.REAL (W.state work.old).folder (by_side (A.state one.old) (B.state two.old)) C.tells (C.moment clock.old)) }
-    ensures begins { OfRun (task_in words.now) (λ opts. opts.resync ≡ None → IsTrue W.tells → AnswersBeginningOf opts Limits.REAL (W.state work.old).folder (by_side (A.state one.old) (B.state two.old)) C.tells (C.moment clock.old) result.end) }
-    ensures begun { OfRun (task_in words.now) (λ opts. opts.resync ≡ None → IsTrue W.tells → is_after_good result.end ≡ true → IsWellBegunOf opts Limits.REAL (W.state work.old).folder (by_side (A.state one.old) (B.state two.old)) C.tells (C.moment clock.old)) }
-    ensures done { OfRun (task_in words.now) (λ opts. opts.resync ≡ None → IsTrue A.tells → IsTrue B.tells → IsTrue W.tells → opts.dry_run ≡ false → opts.check_sync ≢ CheckSync.Only → is_after_good result.end ≡ true →
+    ensures begins { OfRun words.now (λ opts. opts.resync ≡ None → IsTrue W.tells → AnswersBeginningOf opts Limits.REAL (W.state work.old).folder (by_side (A.state one.old) (B.state two.old)) C.tells (C.moment clock.old) result.end) }
+    ensures begun { OfRun words.now (λ opts. opts.resync ≡ None → IsTrue W.tells → is_after_good result.end ≡ true → IsWellBegunOf opts Limits.REAL (W.state work.old).folder (by_side (A.state one.old) (B.state two.old)) C.tells (C.moment clock.old)) }
+    ensures done { OfRun words.now (λ opts. opts.resync ≡ None → IsTrue A.tells → IsTrue B.tells → IsTrue W.tells → opts.dry_run ≡ false → opts.check_sync ≢ CheckSync.Only → is_after_good result.end ≡ true →
         IsDoneBy opts Limits.REAL (W.state work.old).folder (by_side (A.state one.old) (B.state two.old)) (W.state work.new).folder (by_side (A.state one.new) (B.state two.new))) }
-    ensures in_sync { OfRun (task_in words.now) (λ opts. opts.resync ≡ None → IsTrue A.tells → IsTrue B.tells → IsTrue W.tells → opts.dry_run ≡ false → opts.check_sync ≢ CheckSync.Only → is_after_good result.end ≡ true →
+    ensures in_sync { OfRun words.now (λ opts. opts.resync ≡ None → IsTrue A.tells → IsTrue B.tells → IsTrue W.tells → opts.dry_run ≡ false → opts.check_sync ≢ CheckSync.Only → is_after_good result.end ≡ true →
         LeavesInSync opts Limits.REAL (W.state work.old).folder (by_side (A.state one.old) (B.state two.old)) (by_side (A.state one.new) (B.state two.new))) }
-    ensures was_apart { OfRun (task_in words.now) (λ opts. opts.resync ≡ None → IsTrue A.tells → IsTrue B.tells → IsTrue W.tells → (p : PathBytes) (first second : Option Entry) → result.end ≡ OutOfSync p first second →
+    ensures was_apart { OfRun words.now (λ opts. opts.resync ≡ None → IsTrue A.tells → IsTrue B.tells → IsTrue W.tells → (p : PathBytes) (first second : Option Entry) → result.end ≡ OutOfSync p first second →
         WasApartBefore opts Limits.REAL (W.state work.old).folder (by_side (A.state one.old) (B.state two.old))) }
-    ensures resync_in_sync { OfRun (task_in words.now) (λ opts. IsTrue A.tells → IsTrue B.tells → IsTrue W.tells → (mode : Prefer) → opts.resync ≡ Some mode → opts.dry_run ≡ false → is_after_good result.end ≡ true →
+    ensures resync_in_sync { OfRun words.now (λ opts. IsTrue A.tells → IsTrue B.tells → IsTrue W.tells → (mode : Prefer) → opts.resync ≡ Some mode → opts.dry_run ≡ false → is_after_good result.end ≡ true →
         LeavesResyncInSync mode opts (W.state work.old).folder (by_side (A.state one.old) (B.state two.old)) (by_side (A.state one.new) (B.state two.new))) }
-    ensures run_numbers { OfRun (task_in words.now) (λ opts. opts.resync ≡ None → IsTrue A.tells → IsTrue B.tells → IsTrue W.tells → is_good result.end ≡ true → HasOrdinaryNumbers opts Limits.REAL (W.state work.old).folder (by_side (A.state one.old) (B.state two.old)) result.end) }
-    ensures run_base { OfRun (task_in words.now) (λ opts. opts.resync ≡ None → IsTrue A.tells → IsTrue B.tells → IsTrue W.tells →
+    ensures run_numbers { OfRun words.now (λ opts. opts.resync ≡ None → IsTrue A.tells → IsTrue B.tells → IsTrue W.tells → is_good result.end ≡ true → HasOrdinaryNumbers opts Limits.REAL (W.state work.old).folder (by_side (A.state one.old) (B.state two.old)) result.end) }
+    ensures run_base { OfRun words.now (λ opts. opts.resync ≡ None → IsTrue A.tells → IsTrue B.tells → IsTrue W.tells →
         LeavesOrdinaryBaseOf opts Limits.REAL (W.state work.old).folder (by_side (A.state one.old) (B.state two.old)) (W.state work.new).folder (by_side (A.state one.new) (B.state two.new))) }
-    ensures resilient_base { OfRun (task_in words.now) (λ opts. opts.resync ≡ None → IsTrue A.tells → IsTrue B.tells → IsTrue W.tells → (opts.resilient || opts.dry_run) ≡ true →
+    ensures resilient_base { OfRun words.now (λ opts. opts.resync ≡ None → IsTrue A.tells → IsTrue B.tells → IsTrue W.tells → (opts.resilient || opts.dry_run) ≡ true →
         KeepsOrdinaryBaseOf opts Limits.REAL (W.state work.old).folder (by_side (A.state one.old) (B.state two.old)) (W.state work.new).folder (by_side (A.state one.new) (B.state two.new))) }
-    ensures run_trees { OfRun (task_in words.now) (λ opts. opts.resync ≡ None → IsTrue A.tells → IsTrue B.tells → IsTrue W.tells →
+    ensures run_trees { OfRun words.now (λ opts. opts.resync ≡ None → IsTrue A.tells → IsTrue B.tells → IsTrue W.tells →
         LeavesOrdinaryTreesOf opts Limits.REAL (W.state work.old).folder (by_side (A.state one.old) (B.state two.old)) C.tells (C.moment clock.old) (by_side (A.state one.new) (B.state two.new))) }
-    ensures run_rest { OfRun (task_in words.now) (λ opts. opts.resync ≡ None → IsTrue W.tells → but_ordinary_or_fallen (W.state work.new).folder ≡ but_ordinary_or_fallen (W.state work.old).folder) }
-    ensures only_run { OfRun (task_in words.now) (λ opts. opts.resync ≡ None → IsOrdinaryEnd opts (compare_in opts.compare (A.state one.old).window (B.state two.old).window) result.end) }
-    ensures run_images { OfRun (task_in words.now) (λ opts. opts.resync ≡ None → IsTrue A.tells → IsTrue B.tells → IsTrue W.tells →
+    ensures run_rest { OfRun words.now (λ opts. opts.resync ≡ None → IsTrue W.tells → but_ordinary_or_fallen (W.state work.new).folder ≡ but_ordinary_or_fallen (W.state work.old).folder) }
+    ensures only_run { OfRun words.now (λ opts. opts.resync ≡ None → IsOrdinaryEnd opts (compare_in opts.compare (A.state one.old).window (B.state two.old).window) result.end) }
+    ensures run_images { OfRun words.now (λ opts. opts.resync ≡ None → IsTrue A.tells → IsTrue B.tells → IsTrue W.tells →
         IsSettled (W.state work.old).folder → (image : WorkFolder) → IsImage (W.state work.new).folder image → LeavesOrdinaryBaseOf opts Limits.REAL (W.state work.old).folder (by_side (A.state one.old) (B.state two.old)) image (by_side (A.state one.new) (B.state two.new))) }
-    ensures resilient_images { OfRun (task_in words.now) (λ opts. opts.resync ≡ None → IsTrue A.tells → IsTrue B.tells → IsTrue W.tells → (opts.resilient || opts.dry_run) ≡ true →
+    ensures resilient_images { OfRun words.now (λ opts. opts.resync ≡ None → IsTrue A.tells → IsTrue B.tells → IsTrue W.tells → (opts.resilient || opts.dry_run) ≡ true →
         IsSettled (W.state work.old).folder → (image : WorkFolder) → IsImage (W.state work.new).folder image → KeepsOrdinaryBaseOf opts Limits.REAL (W.state work.old).folder (by_side (A.state one.old) (B.state two.old)) image (by_side (A.state one.new) (B.state two.new))) }
-    ensures safe { OfRun (task_in words.now) (λ opts. opts.resync ≡ None → IsTrue A.tells → IsTrue B.tells → IsTrue W.tells →
+    ensures safe { OfRun words.now (λ opts. opts.resync ≡ None → IsTrue A.tells → IsTrue B.tells → IsTrue W.tells →
         IsSettled (W.state work.old).folder → (image : WorkFolder) → IsImage (W.state work.new).folder image → KeepsSafe opts Limits.REAL (W.state work.old).folder (by_side (A.state one.old) (B.state two.old)) image (by_side (A.state one.new) (B.state two.new))) }
-    ensures only_one { OfRun (task_in words.now) (λ opts. opts.resync ≡ None → opts.check_sync ≡ CheckSync.Only → KeepsTree A.tells (A.state one.old) (A.state one.new)) }
-    ensures only_two { OfRun (task_in words.now) (λ opts. opts.resync ≡ None → opts.check_sync ≡ CheckSync.Only → KeepsTree B.tells (B.state two.old) (B.state two.new)) }
-    ensures only_base { OfRun (task_in words.now) (λ opts. opts.resync ≡ None → opts.check_sync ≡ CheckSync.Only → IsTrue W.tells → is_after_good result.end ≡ true →
-        ChangesLock (W.state work.old).folder (W.state work.new).folder) }
-    ensures entered { OfRun (task_in words.now) (λ opts. IsTrue W.tells → is_before_lock result.end ≡ false → AtMoment C.tells (C.moment clock.old) (λ now. IsFree now (W.state work.old).folder.lock) × HasSomeRules opts.filters (W.state work.old).folder) }
+    ensures only_one { OfRun words.now (λ opts. opts.resync ≡ None → opts.check_sync ≡ CheckSync.Only → KeepsTree A.tells (A.state one.old) (A.state one.new)) }
+    ensures only_two { OfRun words.now (λ opts. opts.resync ≡ None → opts.check_sync ≡ CheckSync.Only → KeepsTree B.tells (B.state two.old) (B.state two.new)) }
+    ensures only_base { OfRun words.now (λ opts. opts.resync ≡ None → opts.check_sync ≡ CheckSync.Only → IsTrue W.tells → is_after_good result.end ≡ true → ChangesLock (W.state work.old).folder (W.state work.new).folder) }
+    ensures entered { OfRun words.now (λ opts. IsTrue W.tells → is_before_lock result.end ≡ false → AtMoment C.tells (C.moment clock.old) (λ now. IsFree now (W.state work.old).folder.lock) × HasSomeRules opts.filters (W.state work.old).folder) }
     ensures blocked { IsTrue W.tells → AtMoment C.tells (C.moment clock.old) (λ now. KeepsBlocking now (W.state work.old).folder (W.state work.new).folder) }
+    ensures folder_base { OfRun words.now (λ opts. IsTrue W.tells → LeavesFolderBase opts Limits.REAL (W.state work.old).folder (by_side (A.state one.old) (B.state two.old)) (W.state work.new).folder) }
+    ensures folder_images { OfRun words.now (λ opts. IsTrue W.tells → IsSettled (W.state work.old).folder → (image : WorkFolder) → IsImage (W.state work.new).folder image → LeavesFolderBase opts Limits.REAL (W.state work.old).folder (by_side (A.state one.old) (B.state two.old)) image) }
+    ensures folder_next { OfRun words.now (λ opts. IsTrue W.tells → Writes opts → is_after_good result.end ≡ true → LeavesNextInPlace opts Limits.REAL (W.state work.old).folder (by_side (A.state one.old) (B.state two.old)) (W.state work.new).folder) }
     ensures settled { IsTrue W.tells → IsSettled (W.state work.old).folder → IsSettled (W.state work.new).folder }
     ensures rest { IsTrue W.tells → but_run (W.state work.new).folder ≡ but_run (W.state work.old).folder }
     ensures untouched_one { may_have_changed result.end ≡ false → KeepsTree A.tells (A.state one.old) (A.state one.new) }
     ensures untouched_two { may_have_changed result.end ≡ false → KeepsTree B.tells (B.state two.old) (B.state two.new) }
-    ensures kept { OfRun (task_in words.now) (λ opts. IsTrue W.tells → may_have_changed result.end ≡ false → lets_fall opts.resilient opts.dry_run result.end ≡ false →
-        ChangesLock (W.state work.old).folder (W.state work.new).folder) }
+    ensures kept { OfRun words.now (λ opts. IsTrue W.tells → may_have_changed result.end ≡ false → lets_fall opts.resilient opts.dry_run result.end ≡ false → ChangesLock (W.state work.old).folder (W.state work.new).folder) }
     ensures only_fallen { IsTrue W.tells → may_have_changed result.end ≡ false → but_fallen_or_lock (W.state work.new).folder ≡ but_fallen_or_lock (W.state work.old).folder }
-    ensures fallen { OfRun (task_in words.now) (λ opts. IsTrue W.tells → lets_fall opts.resilient opts.dry_run result.end ≡ true → (Rose (W.state work.old).faults (W.state work.new).faults → ⊥) →
-        HasNoListings (W.state work.new).folder) }
-    ensures fell { OfRun (task_in words.now) (λ opts. IsTrue W.tells → may_have_changed result.end ≡ false → lets_fall opts.resilient opts.dry_run result.end ≡ true → (Rose (W.state work.old).faults (W.state work.new).faults → ⊥) →
+    ensures fallen { OfRun words.now (λ opts. IsTrue W.tells → lets_fall opts.resilient opts.dry_run result.end ≡ true → (Rose (W.state work.old).faults (W.state work.new).faults → ⊥) → HasNoListings (W.state work.new).folder) }
+    ensures fell { OfRun words.now (λ opts. IsTrue W.tells → may_have_changed result.end ≡ false → lets_fall opts.resilient opts.dry_run result.end ≡ true → (Rose (W.state work.old).faults (W.state work.new).faults → ⊥) →
         IsFallen (W.state work.old).folder (W.state work.new).folder) }
-    ensures dry_one { OfRun (task_in words.now) (λ opts. opts.dry_run ≡ true → KeepsTree A.tells (A.state one.old) (A.state one.new)) }
-    ensures dry_two { OfRun (task_in words.now) (λ opts. opts.dry_run ≡ true → KeepsTree B.tells (B.state two.old) (B.state two.new)) }
-    ensures dry { OfRun (task_in words.now) (λ opts. IsTrue W.tells → opts.dry_run ≡ true → ChangesLock (W.state work.old).folder (W.state work.new).folder) }
-    ensures lock { OfRun (task_in words.now) (λ opts. IsTrue W.tells →
-        (Rose (W.state work.old).faults (W.state work.new).faults → ⊥) → LeavesLock result.end (W.state work.old).folder (W.state work.new).folder) }
+    ensures dry_one { OfRun words.now (λ opts. opts.dry_run ≡ true → KeepsTree A.tells (A.state one.old) (A.state one.new)) }
+    ensures dry_two { OfRun words.now (λ opts. opts.dry_run ≡ true → KeepsTree B.tells (B.state two.old) (B.state two.new)) }
+    ensures dry { OfRun words.now (λ opts. IsTrue W.tells → opts.dry_run ≡ true → ChangesLock (W.state work.old).folder (W.state work.new).folder) }
+    ensures lock { OfRun words.now (λ opts. IsTrue W.tells → (Rose (W.state work.old).faults (W.state work.new).faults → ⊥) → LeavesLock result.end (W.state work.old).folder (W.state work.new).folder) }
     ensures freed { IsTrue W.tells → has_freed result.end ≡ true → (W.state work.new).folder.lock ≡ Absent }
     ensures lock_new { IsTrue W.tells → (Rose (W.state work.old).faults (W.state work.new).faults → ⊥) → KeepsLockNew (W.state work.old).folder (W.state work.new).folder }
-    ensures no_digest { OfRun (task_in words.now) (λ opts. IsTrue W.tells → opts.filters ≡ None → (W.state work.new).folder.filters_md5 ≡ (W.state work.old).folder.filters_md5) }
-    ensures entry { OfRun (task_in words.now) (λ opts. IsTrue W.tells → is_unlocked result.end ≡ true →
-        IsEntryEnd opts.filters (W.state work.old).folder C.tells (C.moment clock.old) result.end) }
+    ensures no_digest { OfRun words.now (λ opts. IsTrue W.tells → opts.filters ≡ None → (W.state work.new).folder.filters_md5 ≡ (W.state work.old).folder.filters_md5) }
+    ensures entry { OfRun words.now (λ opts. IsTrue W.tells → is_unlocked result.end ≡ true → IsEntryEnd opts.filters (W.state work.old).folder C.tells (C.moment clock.old) result.end) }
     ensures held_back { IsTrue C.tells → IsHeldBack (C.moment clock.old) result.end }
     ensures grounds { HasGrounds Limits.REAL (by_side A.tells B.tells) result.end }
     ensures told_truly { IsTold (by_side A.tells B.tells) (by_side (A.state one.old) (B.state two.old)) result.end }
@@ -144,16 +143,16 @@ pub fn bisync_main<A: Folders, B: Folders, K: Remote, L: Remote, W: Work, C: Clo
     ensures left2 { (B.state two.old).left ≡ None → (B.state two.new).left ≡ None }
     ensures left { (W.state work.old).left ≡ None → (W.state work.new).left ≡ None }
     ensures later { Later (counts (A.state one.old).faults (B.state two.old).faults (W.state work.old).faults (S.state sink.old).faults) (counts (A.state one.new).faults (B.state two.new).faults (W.state work.new).faults (S.state sink.new).faults) }
-    ensures causes { OfRun (task_in words.now) (λ opts.
+    ensures causes { OfRun words.now (λ opts.
         Ends (counts (A.state one.old).faults (B.state two.old).faults (W.state work.old).faults (S.state sink.old).faults) (counts (A.state one.new).faults (B.state two.new).faults (W.state work.new).faults (S.state sink.new).faults) result.end) }
     ensures quiet { IsTrue S.tells → (Rose (S.state sink.old).faults (S.state sink.new).faults → ⊥) → may_tell_plan result.end ≡ false →
         (S.state sink.new).bytes ≡ (S.state sink.old).bytes ++ last_text result.end }
-    ensures only_quiet { OfRun (task_in words.now) (λ opts. opts.resync ≡ None → opts.check_sync ≡ CheckSync.Only → IsTrue S.tells → (Rose (S.state sink.old).faults (S.state sink.new).faults → ⊥) → (S.state sink.new).bytes ≡ (S.state sink.old).bytes ++ last_text result.end) }
+    ensures only_quiet { OfRun words.now (λ opts. opts.resync ≡ None → opts.check_sync ≡ CheckSync.Only → IsTrue S.tells → (Rose (S.state sink.old).faults (S.state sink.new).faults → ⊥) → (S.state sink.new).bytes ≡ (S.state sink.old).bytes ++ last_text result.end) }
     ensures lines { IsTrue S.tells → (Rose (S.state sink.old).faults (S.state sink.new).faults → ⊥) →
         (lines : List ℕ) × ((S.state sink.new).bytes ≡ ((S.state sink.old).bytes ++ lines) ++ last_text result.end) }
-    ensures report { OfRun (task_in words.now) (λ opts. IsTrue A.tells → IsTrue B.tells → IsTrue S.tells → IsTrue W.tells → (mode : Prefer) → opts.resync ≡ Some mode →
+    ensures report { OfRun words.now (λ opts. IsTrue A.tells → IsTrue B.tells → IsTrue S.tells → IsTrue W.tells → (mode : Prefer) → opts.resync ≡ Some mode →
         (Rose (S.state sink.old).faults (S.state sink.new).faults → ⊥) → TellsRun mode opts (W.state work.old).folder (by_side (A.state one.old) (B.state two.old)) (by_side (A.state one.new) (B.state two.new)) (S.state sink.old).bytes (last_text result.end) (S.state sink.new).bytes result.end) }
-    ensures run_report { OfRun (task_in words.now) (λ opts. opts.resync ≡ None → IsTrue A.tells → IsTrue B.tells → IsTrue W.tells → IsTrue S.tells → (Rose (S.state sink.old).faults (S.state sink.new).faults → ⊥) →
+    ensures run_report { OfRun words.now (λ opts. opts.resync ≡ None → IsTrue A.tells → IsTrue B.tells → IsTrue W.tells → IsTrue S.tells → (Rose (S.state sink.old).faults (S.state sink.new).faults → ⊥) →
         TellsOrdinaryRun opts Limits.REAL (W.state work.old).folder (by_side (A.state one.old) (B.state two.old)) (by_side (A.state one.new) (B.state two.new)) (S.state sink.old).bytes (last_text result.end) (S.state sink.new).bytes result.end) }
 {
     let opts = match read_task(alloc, words) {
@@ -168,5 +167,5 @@ pub fn bisync_main<A: Folders, B: Folders, K: Remote, L: Remote, W: Work, C: Clo
     Answer { status, end }
 }
 
-/// Lets the options of a run go. In a call of its own, so that the proof of the top call has no cases on them.
+/// Lets the options go, in a call of its own, so that the proof above has no cases on them.
 fn let_go(_opts: Opts) {}

@@ -1,5 +1,5 @@
 -- That both trees agree after a run, and that its base did not where it was refused as out of sync.
-use Rattle.std.proofs.Common.{◌⊎◌, ℤ, Bool, IsTrue, Option, ap, subst, sym, inl, inr}
+use Rattle.std.proofs.Common.{◌⊎◌, ℤ, Bool, IsTrue, Option, subst, sym, inl, inr}
 use Rattle.bisync_tree.specs.Rows.{PathBytes}
 use Rattle.bisync_tree.specs.declared.entries.Entry.{Entry}
 use Rattle.bisync_tree.specs.declared.options.Limits.{Limits}

@@ -53,3 +53,4 @@ pub mod BeginningLaws
 pub mod LookBeginnings
 pub mod WholeRefusals
 pub mod InSyncRuns
+pub mod FolderBases

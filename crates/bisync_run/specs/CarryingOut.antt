@@ -16,6 +16,11 @@ pub record AreWithin (limit : ℕ) (prepared : Prepared) : Type 0 where
   pub one : length (listing_text (header_of prepared.stamp prepared.compare) prepared.plan.final1) ≤ limit
   pub two : length (listing_text (header_of prepared.stamp prepared.compare) prepared.plan.final2) ≤ limit
 
+-- The base is the one before, or there is none, or it is the new one, as the work folder alone tells it.
+abbrev pub LosesOrNext : ℕ → Prepared → WorkFolder → WorkFolder → Type 0
+LosesOrNext limit prepared f g =
+    (base : Option Base) → IsBase limit f base → IsBase limit g base ⊎ (HasNoBase limit g ⊎ IsBase limit g (Some (next_base prepared)))
+
 -- The base is the one before, and no side was touched; or there is none; or it is the new one, and all steps are done.
 abbrev pub LeavesOneBase : ℕ → Prepared → WorkFolder → Remotes → WorkFolder → Remotes → Type 0
 LeavesOneBase limit prepared f start g now =

@@ -29,4 +29,5 @@ pub mod OrdinaryRuns
 pub mod Beginnings
 pub mod RunRefusals
 pub mod Agreement
+pub mod FolderBases
 pub mod LookRuns

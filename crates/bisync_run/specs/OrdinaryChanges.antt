@@ -33,6 +33,10 @@ pub record IsSetBack (limit : ℕ) (before : Base) (prepared : Prepared) (g : Wo
 
 -- # Carrying out
 
+-- The base is as before or the new one, as the work folder alone tells it.
+abbrev pub KeepsOrNext : ℕ → Prepared → WorkFolder → WorkFolder → Type 0
+KeepsOrNext limit prepared f g = (base : Option Base) → IsBase limit f base → IsBase limit g base ⊎ IsBase limit g (Some (next_base prepared))
+
 -- The base is as before; or it is the new one, and all steps are done.
 abbrev pub KeepsOrSwitches : ℕ → Prepared → WorkFolder → Remotes → WorkFolder → Remotes → Type 0
 KeepsOrSwitches limit prepared f start g now =

@@ -11,6 +11,7 @@ ghost use Rattle.bisync_run.specs.Beginnings.{AnswersBeginning, IsWellBegun};
 ghost use Rattle.bisync_run.specs.Counts.{counts, HasCauses};
 ghost use Rattle.bisync_run.specs.Courses.{is_only as is_only_of};
 ghost use Rattle.bisync_run.specs.EndKinds.{is_good, is_unlocked, may_have_changed, may_tell_plan};
+ghost use Rattle.bisync_run.specs.FolderBases.{HasNextInPlace, IsSetBackTo, KeepsOrTakesNext};
 ghost use Rattle.bisync_run.specs.Grounds.{HasGrounds, IsTold};
 ghost use Rattle.bisync_run.specs.HeldResyncs.{end_of};
 ghost use Rattle.bisync_run.specs.LockNew.{KeepsLockNew};
@@ -62,6 +63,8 @@ pub fn ordinary<A: Remote, B: Remote, W: Work, C: Clock, S: Sink>(
         OnOk result (HasNoOrdinaryRefusal opts.now limits.now (W.state work.old).folder (sides_of opts.now.compare entered.now.rules (A.state one.old) (B.state two.old)) entered.now.digest) }
     ensures begins { IsTrue W.tells → AnswersBeginning opts.now limits.now (W.state work.old).folder (sides_of opts.now.compare entered.now.rules (A.state one.old) (B.state two.old)) entered.now.digest (end_of result) }
     ensures begun { IsTrue W.tells → OnOk result (IsWellBegun opts.now limits.now (W.state work.old).folder (sides_of opts.now.compare entered.now.rules (A.state one.old) (B.state two.old)) entered.now.digest) }
+    ensures folder_base { IsTrue W.tells → KeepsOrTakesNext limits.now (compare_in opts.now.compare (A.state one.old).window (B.state two.old).window) (W.state work.old).folder (W.state work.new).folder }
+    ensures folder_next { IsTrue W.tells → opts.now.dry_run ≡ false → opts.now.check_sync ≢ CheckSync.Only → OnOk result (HasNextInPlace limits.now (compare_in opts.now.compare (A.state one.old).window (B.state two.old).window) (W.state work.old).folder (W.state work.new).folder × IsSetBackTo limits.now (W.state work.old).folder (W.state work.new).folder) }
     ensures well { IfOk result (λ end. is_good end ≡ true) }
     ensures only { is_unlocked (end_of result) ≡ false }
     ensures kind { IsOrdinaryEnd opts.now (compare_in opts.now.compare (A.state one.old).window (B.state two.old).window) (end_of result) }

@@ -8,7 +8,7 @@ ghost use Rattle.bisync_plan.specs.Plans.{AreWritable, header_of};
 ghost use Rattle.bisync_device.specs.Faults.{Rose};
 ghost use Rattle.bisync_device.specs.WorkFolder.{IsSettled};
 ghost use Rattle.bisync_transfer.specs.StepTrees.{AreDone};
-ghost use Rattle.bisync_run.specs.CarryingOut.{AreWithin, LeavesOneBase, but_carried, AreCarriedOut};
+ghost use Rattle.bisync_run.specs.CarryingOut.{AreWithin, LeavesOneBase, LosesOrNext, but_carried, AreCarriedOut};
 ghost use Rattle.bisync_run.specs.Counts.{counts, HasCauses};
 ghost use Rattle.bisync_run.specs.LockNew.{KeepsLockNew};
 ghost use Rattle.bisync_run.specs.Stepping.{IsPartDone, FindsAll, FindsTold, IsStepEnd, MovedDiffers, MovedIsRead};
@@ -42,6 +42,7 @@ pub fn carry_out<A: Remote, B: Remote, W: Work, C: Clock>(
     ensures rest { IsTrue W.tells → but_carried (W.state work.new).folder ≡ but_carried (W.state work.old).folder }
     ensures lock_new { IsTrue W.tells → (Rose (W.state work.old).faults (W.state work.new).faults → ⊥) → KeepsLockNew (W.state work.old).folder (W.state work.new).folder }
     ensures no_digest { IsTrue W.tells → digest.now ≡ None → (W.state work.new).folder.filters_md5 ≡ (W.state work.old).folder.filters_md5 }
+    ensures folder_base { IsTrue W.tells → (limit : ℕ) → limit < 2 ^ 64 → AreWithin limit prepared → LosesOrNext limit prepared (W.state work.old).folder (W.state work.new).folder }
     ensures carried_out { IsTrue W.tells → (limit : ℕ) → limit < 2 ^ 64 → AreWithin limit prepared → OnOk result (AreCarriedOut limit prepared digest.now (W.state work.old).folder (W.state work.new).folder) }
     ensures done { IsTrue A.tells → IsTrue B.tells → OnOk result (AreDone prepared.plan.steps.items (by_side (A.state one.old) (B.state two.old)) (by_side (A.state one.new) (B.state two.new))) }
     ensures part { IsTrue A.tells → IsTrue B.tells → IsPartDone prepared.plan.steps.items (by_side (A.state one.old) (B.state two.old)) (by_side (A.state one.new) (B.state two.new)) }

@@ -10,13 +10,14 @@ ghost use Rattle.bisync_opts.specs.Ranges.{IsInRange};
 ghost use Rattle.bisync_run.specs.CarryingOut.{AreSetAside, but_carried};
 ghost use Rattle.bisync_run.specs.Counts.{counts, HasCauses};
 ghost use Rattle.bisync_run.specs.EndKinds.{is_good, is_unlocked, may_have_changed, may_tell_plan};
+ghost use Rattle.bisync_run.specs.FolderBases.{HasNextInPlace, LosesOrTakesNext};
 ghost use Rattle.bisync_run.specs.Grounds.{HasGrounds, IsTold};
 ghost use Rattle.bisync_run.specs.HeldResyncs.{end_of, IsGoodEndOf, TellsPlan};
 ghost use Rattle.bisync_run.specs.LockNew.{KeepsLockNew};
 ghost use Rattle.bisync_run.specs.ResyncEnds.{IsResyncEnd};
 ghost use Rattle.bisync_run.specs.ResyncRefusals.{AnswersResync, HasNoResyncRefusal};
 ghost use Rattle.bisync_run.specs.Resyncs.{IsResynced, LeavesBase, LeavesTrees};
-ghost use Rattle.bisync_run.specs.Sides.{sides_of};
+ghost use Rattle.bisync_run.specs.Sides.{compare_in, sides_of};
 
 use crate::buffers::copy_buffer;
 use crate::entering::Entered;
@@ -62,6 +63,8 @@ pub fn resync<A: Remote, B: Remote, W: Work, C: Clock, S: Sink>(
     ensures lock_new { IsTrue W.tells → (Rose (W.state work.old).faults (W.state work.new).faults → ⊥) → KeepsLockNew (W.state work.old).folder (W.state work.new).folder }
     ensures no_digest { IsTrue W.tells → entered.now.digest ≡ None → (W.state work.new).folder.filters_md5 ≡ (W.state work.old).folder.filters_md5 }
     ensures set_aside { IsTrue W.tells → opts.now.dry_run ≡ false → OnOk result (AreSetAside entered.now.digest (W.state work.old).folder (W.state work.new).folder) }
+    ensures folder_base { IsTrue W.tells → LosesOrTakesNext limits.now (compare_in opts.now.compare (A.state one.old).window (B.state two.old).window) (W.state work.old).folder (W.state work.new).folder }
+    ensures folder_next { IsTrue W.tells → opts.now.dry_run ≡ false → OnOk result (HasNextInPlace limits.now (compare_in opts.now.compare (A.state one.old).window (B.state two.old).window) (W.state work.old).folder (W.state work.new).folder) }
     ensures quiet { IsTrue S.tells → (Rose (S.state sink.old).faults (S.state sink.new).faults → ⊥) → may_tell_plan (end_of result) ≡ false → (S.state sink.new).bytes ≡ (S.state sink.old).bytes }
     ensures lines { IsTrue S.tells → (lines : List ℕ) × ((S.state sink.new).bytes ≡ (S.state sink.old).bytes ++ lines) }
     ensures report { IsTrue A.tells → IsTrue B.tells → IsTrue S.tells →

@@ -3,7 +3,7 @@ use Rattle.bisync_tree.specs.declared.options.TheConstants.Limits.{REAL}
 use Rattle.bisync_model.specs.Trees.{by_side}
 use Rattle.bisync_run.proofs.BlockedFolders.{blocked_same}
 use Rattle.bisync_cli.specs.Tasks.{task_in}
-use Rattle.bisync_cli.proofs.Runs.{of_run, images_same, run_images_same, kept_images_same, safe_same, ends_run}
+use Rattle.bisync_cli.proofs.Runs.{of_run, folder_images_same, images_same, run_images_same, kept_images_same, safe_same, ends_run}
 use Rattle.bisync_cli.proofs.top.bisync_main.Goals as goal
 
 pub returns-in-Err-OutOfMemory-clause-images : goal.returns-in-Err-OutOfMemory-clause-images
@@ -157,6 +157,21 @@ returns-clause-was_apart g c = of_run _ _ _ _ c.in-Ok-Run.ensures.read.ok c.in-O
 
 pub returns-clause-resync_in_sync : goal.returns-clause-resync_in_sync
 returns-clause-resync_in_sync g c = of_run _ _ _ _ c.in-Ok-Run.ensures.read.ok c.in-Ok-Run.field-0-is c.run-end.ensures.resync_in_sync
+
+-- # What the work folder alone tells of the base
+
+pub returns-in-Err-OutOfMemory-clause-folder_images : goal.returns-in-Err-OutOfMemory-clause-folder_images
+returns-in-Err-OutOfMemory-clause-folder_images g c =
+    folder_images_same (task_in c.args.words.now) _ _ (g.W.Work.state c.args.work.now).folder (by_side (g.A.Remote.state c.args.one.now) (g.B.Remote.state c.args.two.now))
+
+pub returns-clause-folder_base : goal.returns-clause-folder_base
+returns-clause-folder_base g c = of_run _ _ _ _ c.in-Ok-Run.ensures.read.ok c.in-Ok-Run.field-0-is c.run-end.ensures.folder_base
+
+pub returns-clause-folder_images : goal.returns-clause-folder_images
+returns-clause-folder_images g c = of_run _ _ _ _ c.in-Ok-Run.ensures.read.ok c.in-Ok-Run.field-0-is c.run-end.ensures.folder_images
+
+pub returns-clause-folder_next : goal.returns-clause-folder_next
+returns-clause-folder_next g c = of_run _ _ _ _ c.in-Ok-Run.ensures.read.ok c.in-Ok-Run.field-0-is c.run-end.ensures.folder_next
 
 -- # A lock that blocks is left alone
 

@@ -18,6 +18,7 @@ use Rattle.bisync_run.proofs.CoursesBefore.{run_answers_before, unrefused_before
 use Rattle.bisync_run.proofs.DoneSteps.{untouched_same}
 use Rattle.bisync_run.proofs.EndCases.{false_true, good_is_after_good}
 use Rattle.bisync_run.proofs.EndKindLaws.{unlocked_is_own, unlocked_not_after_good, unlocked_fell, freed_is_after_good}
+use Rattle.bisync_run.proofs.FolderBases.{folder_base_closed, folder_base_unlocked, folder_next_closed}
 use Rattle.bisync_run.proofs.LockNewLaws.{lock_new_twice, lock_new_same}
 use Rattle.bisync_run.proofs.LockedFolders.{base_past}
 use Rattle.bisync_run.proofs.OrdinaryClosed.{base_kept, falls_resilient, rest_closed, rest_locked, run_base_closed, run_done_closed, way_before}
@@ -100,25 +101,18 @@ returns-clause-answers g c mode mode_is one two work =
 pub returns-clause-accepted : goal.returns-clause-accepted
 returns-clause-accepted g c mode mode_is one two work good =
     let f = (g.W.Work.state c.args.work.now).folder in
-    let f2 = (g.W.Work.state c.enter.new.work).folder in
-    let changes = c.in-Ok.ensures.others work in
     let m : Matter c.args.opts.now f _ = record { rules = c.in-Ok.entered.rules; digest = c.in-Ok.entered.digest; are = c.in-Ok.ensures.rules work } in
     let ok = after_good_was_ok _ _ c.held-ended.result c.close.result c.held-ended.ensures.causes.fault c.close.ensures.end good in
-    (c.in-Ok.ensures.free work, (m, none_before mode c.args.limits.now f f2 changes _ (on_ok c.held-ended.result ok (c.held-ended.ensures.accepted mode mode_is one two work))))
+    (c.in-Ok.ensures.free work, (m, none_before mode c.args.limits.now f _ (c.in-Ok.ensures.others work) _ (on_ok c.held-ended.result ok (c.held-ended.ensures.accepted mode mode_is one two work))))
 
 pub returns-clause-resynced : goal.returns-clause-resynced
 returns-clause-resynced g c mode mode_is one two work dry good =
     let f = (g.W.Work.state c.args.work.now).folder in
-    let f2 = (g.W.Work.state c.enter.new.work).folder in
-    let changes = c.in-Ok.ensures.others work in
     let m : Matter c.args.opts.now f _ = record { rules = c.in-Ok.entered.rules; digest = c.in-Ok.entered.digest; are = c.in-Ok.ensures.rules work } in
-    let mid = (g.W.Work.state c.held-ended.new.work).folder in
-    let h = (g.W.Work.state c.close.new.work).folder in
-    let now = by_side (g.A.Remote.state c.held-ended.new.one) (g.B.Remote.state c.held-ended.new.two) in
     let ok = after_good_was_ok _ _ c.held-ended.result c.close.result c.held-ended.ensures.causes.fault c.close.ensures.end good in (
       m,
-      done_unlocked mode c.args.limits.now _ _ now c.in-Ok.entered.digest f f2 h changes
-          (done_closed mode c.args.limits.now _ _ now c.in-Ok.entered.digest f2 mid h
+      done_unlocked mode c.args.limits.now _ _ _ c.in-Ok.entered.digest f _ _ (c.in-Ok.ensures.others work)
+          (done_closed mode c.args.limits.now _ _ _ c.in-Ok.entered.digest _ _ _
           (on_ok c.held-ended.result ok (c.held-ended.ensures.resynced mode mode_is one two work dry))
           (c.close.ensures.kept work (falls_ok c.args.opts.now.resilient c.args.opts.now.dry_run c.held-ended.result ok))),
     )
@@ -135,23 +129,16 @@ returns-clause-numbers g c mode mode_is one two work good =
 pub returns-clause-base : goal.returns-clause-base
 returns-clause-base g c mode mode_is one two work base is =
     let f = (g.W.Work.state c.args.work.now).folder in
-    let f2 = (g.W.Work.state c.enter.new.work).folder in
-    let changes = c.in-Ok.ensures.others work in
     let m : Matter c.args.opts.now f _ = record { rules = c.in-Ok.entered.rules; digest = c.in-Ok.entered.digest; are = c.in-Ok.ensures.rules work } in
-    let mid = (g.W.Work.state c.held-ended.new.work).folder in
-    let h = (g.W.Work.state c.close.new.work).folder in
-    let now = by_side (g.A.Remote.state c.held-ended.new.one) (g.B.Remote.state c.held-ended.new.two) in
     ⊎_elim inl (λ other. inr (⊎_elim inl (λ made. inr (m, made)) other))
-    (base_unlocked mode c.args.limits.now _ _ now f f2 h changes
-    (base_closed mode c.args.limits.now _ _ now f2 mid h (c.held-ended.ensures.base mode mode_is one two work) (c.close.ensures.closes work)) base is)
+    (base_unlocked mode c.args.limits.now _ _ _ f _ _ (c.in-Ok.ensures.others work)
+    (base_closed mode c.args.limits.now _ _ _ _ _ _ (c.held-ended.ensures.base mode mode_is one two work) (c.close.ensures.closes work)) base is)
 
 pub returns-clause-trees : goal.returns-clause-trees
 returns-clause-trees g c mode mode_is one two work =
     let f = (g.W.Work.state c.args.work.now).folder in
-    let f2 = (g.W.Work.state c.enter.new.work).folder in
-    let changes = c.in-Ok.ensures.others work in
     let m : Matter c.args.opts.now f _ = record { rules = c.in-Ok.entered.rules; digest = c.in-Ok.entered.digest; are = c.in-Ok.ensures.rules work } in
-    ⊎_elim inl (λ some. inr (c.in-Ok.ensures.free work, (m, inr (none_before mode c.args.limits.now f f2 changes _ some.0, some.1))))
+    ⊎_elim inl (λ some. inr (c.in-Ok.ensures.free work, (m, inr (none_before mode c.args.limits.now f _ (c.in-Ok.ensures.others work) _ some.0, some.1))))
     (c.held-ended.ensures.trees mode mode_is one two work)
 
 pub returns-clause-untouched_one : goal.returns-clause-untouched_one
@@ -181,20 +168,12 @@ returns-clause-only g c mode mode_is = own_closed c.args.opts.now c.held-ended.r
 
 pub returns-clause-kept : goal.returns-clause-kept
 returns-clause-kept g c work early stays =
-    let f = (g.W.Work.state c.args.work.now).folder in
-    let f2 = (g.W.Work.state c.enter.new.work).folder in
-    let mid = (g.W.Work.state c.held-ended.new.work).folder in
-    let h = (g.W.Work.state c.close.new.work).folder in
-    changes_closed f f2 mid h (c.in-Ok.ensures.others work) (c.held-ended.ensures.early (early_closed c.held-ended.result c.close.result c.close.ensures.end early) work)
+    changes_closed _ _ _ _ (c.in-Ok.ensures.others work) (c.held-ended.ensures.early (early_closed c.held-ended.result c.close.result c.close.ensures.end early) work)
     (c.close.ensures.kept work (falls_closed c.args.opts.now.resilient c.args.opts.now.dry_run c.held-ended.result c.close.result c.close.ensures.end stays))
 
 pub returns-clause-only_fallen : goal.returns-clause-only_fallen
 returns-clause-only_fallen g c work early =
-    let f = (g.W.Work.state c.args.work.now).folder in
-    let f2 = (g.W.Work.state c.enter.new.work).folder in
-    let mid = (g.W.Work.state c.held-ended.new.work).folder in
-    let h = (g.W.Work.state c.close.new.work).folder in
-    fallen_closed f f2 mid h (c.in-Ok.ensures.others work) (c.held-ended.ensures.early (early_closed c.held-ended.result c.close.result c.close.ensures.end early) work) (c.close.ensures.closes work)
+    fallen_closed _ _ _ _ (c.in-Ok.ensures.others work) (c.held-ended.ensures.early (early_closed c.held-ended.result c.close.result c.close.ensures.end early) work) (c.close.ensures.closes work)
 
 pub returns-clause-fallen : goal.returns-clause-fallen
 returns-clause-fallen g c work fell never =
@@ -447,3 +426,23 @@ returns-clause-begun g c none work good =
       c.in-Ok.ensures.free work,
       (m, well_before c.args.opts.now c.args.limits.now f f2 (c.in-Ok.ensures.others work) s c.in-Ok.entered.digest (on_ok c.held-ended.result ok (c.held-ended.ensures.begun none work))),
     )
+
+pub returns-in-Err-clause-folder_base : goal.returns-in-Err-clause-folder_base
+returns-in-Err-clause-folder_base g c work =
+    folder_base_unlocked c.args.opts.now c.args.limits.now (by_side (g.A.Remote.state c.args.one.now) (g.B.Remote.state c.args.two.now)) (g.W.Work.state c.args.work.now).folder (g.W.Work.state c.enter.new.work).folder (c.in-Err.ensures.others work)
+
+pub returns-in-Err-clause-folder_next : goal.returns-in-Err-clause-folder_next
+returns-in-Err-clause-folder_next g c work writes good = absurd (unlocked_not_after_good c.args.opts.now.filters c.in-Err.end c.in-Err.ensures.kind good)
+
+pub returns-clause-folder_base : goal.returns-clause-folder_base
+returns-clause-folder_base g c work =
+    folder_base_closed c.args.opts.now c.args.limits.now (by_side (g.A.Remote.state c.args.one.now) (g.B.Remote.state c.args.two.now)) (g.W.Work.state c.args.work.now).folder (g.W.Work.state c.enter.new.work).folder
+    (g.W.Work.state c.held-ended.new.work).folder (g.W.Work.state c.close.new.work).folder (c.in-Ok.ensures.others work) (c.held-ended.ensures.folder_base work) c.held-ended.result
+    (c.close.ensures.closes work) (c.close.ensures.kept work)
+
+pub returns-clause-folder_next : goal.returns-clause-folder_next
+returns-clause-folder_next g c work writes good =
+    let ok = after_good_was_ok _ _ c.held-ended.result c.close.result c.held-ended.ensures.causes.fault c.close.ensures.end good in
+    folder_next_closed c.args.opts.now c.args.limits.now (by_side (g.A.Remote.state c.args.one.now) (g.B.Remote.state c.args.two.now)) (g.W.Work.state c.args.work.now).folder (g.W.Work.state c.enter.new.work).folder
+    (g.W.Work.state c.held-ended.new.work).folder (g.W.Work.state c.close.new.work).folder (c.in-Ok.ensures.others work)
+    (c.close.ensures.kept work (falls_ok c.args.opts.now.resilient c.args.opts.now.dry_run c.held-ended.result ok)) (on_ok c.held-ended.result ok (c.held-ended.ensures.folder_next work writes))

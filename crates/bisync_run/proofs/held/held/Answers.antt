@@ -4,6 +4,7 @@ use Rattle.bisync_model.specs.Trees.{by_side}
 use Rattle.bisync_run.specs.HeldResyncs.{TellsPlan}
 use Rattle.bisync_run.specs.Resyncs.{IsResynced, LeavesBase, LeavesTrees}
 use Rattle.bisync_run.specs.Sides.{sides_of}
+use Rattle.bisync_run.proofs.FolderBases.{map_ok, ordinary_leaves, resync_in_place, resync_leaves}
 use Rattle.bisync_run.proofs.ToldEnds.{some_same}
 use Rattle.bisync_run.proofs.held.held.Goals as goal
 
@@ -38,3 +39,21 @@ returns-in-Some-clause-report g c mode is one two sink =
     let now = by_side (g.A.Remote.state c.resync.new.one) (g.B.Remote.state c.resync.new.two) in
     subst (λ (m : Prefer). TellsPlan m (sides_of c.args.opts.now.compare c.args.entered.now.rules a b) (by_side a b) now (g.S.Sink.state c.args.sink.now).bytes (g.S.Sink.state c.resync.new.sink).bytes c.resync.result)
     (some_same c.in-Some.mode mode (sym c.in-Some.is ∙ is)) (c.resync.ensures.report one two sink)
+
+-- # What the work folder alone tells
+
+pub returns-in-Some-clause-folder_base : goal.returns-in-Some-clause-folder_base
+returns-in-Some-clause-folder_base g c work =
+    resync_leaves c.args.opts.now c.args.limits.now (by_side (g.A.Remote.state c.args.one.now) (g.B.Remote.state c.args.two.now)) (g.W.Work.state c.args.work.now).folder (g.W.Work.state c.resync.new.work).folder c.in-Some.mode c.in-Some.is (λ dry. c.resync.ensures.dry dry work) (c.resync.ensures.folder_base work)
+
+pub returns-in-Some-clause-folder_next : goal.returns-in-Some-clause-folder_next
+returns-in-Some-clause-folder_next g c work writes =
+    map_ok c.resync.result (resync_in_place c.args.opts.now c.args.limits.now (by_side (g.A.Remote.state c.args.one.now) (g.B.Remote.state c.args.two.now)) (g.W.Work.state c.args.work.now).folder (g.W.Work.state c.resync.new.work).folder c.in-Some.mode c.in-Some.is) (c.resync.ensures.folder_next work writes.0)
+
+pub returns-in-None-clause-folder_base : goal.returns-in-None-clause-folder_base
+returns-in-None-clause-folder_base g c work =
+    ordinary_leaves c.args.opts.now c.args.limits.now (by_side (g.A.Remote.state c.args.one.now) (g.B.Remote.state c.args.two.now)) (g.W.Work.state c.args.work.now).folder (g.W.Work.state c.ordinary.new.work).folder (c.ordinary.ensures.folder_base work)
+
+pub returns-in-None-clause-folder_next : goal.returns-in-None-clause-folder_next
+returns-in-None-clause-folder_next g c work writes =
+    map_ok c.ordinary.result (λ out. (out.0, λ none. out.1)) (c.ordinary.ensures.folder_next work writes.0 (writes.1 c.in-None.is))

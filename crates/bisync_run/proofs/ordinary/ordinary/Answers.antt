@@ -8,6 +8,7 @@ use Rattle.bisync_run.proofs.BeginningLaws.{begun_by, compared_begins, compared_
 use Rattle.bisync_run.proofs.CauseLaws.{fails}
 use Rattle.bisync_run.proofs.DoneSteps.{looked_told}
 use Rattle.bisync_run.proofs.EndCases.{step_may_change, told_device}
+use Rattle.bisync_run.proofs.FolderBases.{kept_or_next, next_in_place, ready_to}
 use Rattle.bisync_run.proofs.HeldLaws.{untouched, same_windows, are_within}
 use Rattle.bisync_run.proofs.OrdinaryCauses.{done_same, lock_new_held, since, stopped, sunk, told_same, unsunk, well, work_same}
 use Rattle.bisync_run.proofs.OrdinaryEndCases.{compared_causes, compared_tells, device_answers, not_only, only_is, start_answers, step_kind}
@@ -63,8 +64,7 @@ returns-in_default-clause-causes g c =
 
 pub returns-in-Err-plan_lines-clause-trees : goal.returns-in-Err-plan_lines-clause-trees
 returns-in-Err-plan_lines-clause-trees g c one two work =
-    inl (untouched (g.A.Remote.state c.args.one.now) (g.B.Remote.state c.args.two.now) (g.A.Remote.state c.look_ordinary.new.one) (g.B.Remote.state c.look_ordinary.new.two)
-    (c.in-Ok-look_ordinary.ensures.one.tree one) (c.in-Ok-look_ordinary.ensures.two.tree two))
+    inl (untouched _ _ _ _ (c.in-Ok-look_ordinary.ensures.one.tree one) (c.in-Ok-look_ordinary.ensures.two.tree two))
 
 pub returns-in-Err-plan_lines-clause-answers : goal.returns-in-Err-plan_lines-clause-answers
 returns-in-Err-plan_lines-clause-answers g c one two work =
@@ -319,30 +319,15 @@ returns-clause-causes g c =
 
 pub returns-in_default-clause-trees : goal.returns-in_default-clause-trees
 returns-in_default-clause-trees g c one two work =
-    let a = g.A.Remote.state c.args.one.now in
-    let b = g.B.Remote.state c.args.two.now in
-    let a2 = g.A.Remote.state c.look_ordinary.new.one in
-    let b2 = g.B.Remote.state c.look_ordinary.new.two in
-    let looked = untouched a b a2 b2 (c.in-Ok-look_ordinary.ensures.one.tree one) (c.in-Ok-look_ordinary.ensures.two.tree two) in
-    inl looked
+    inl (untouched _ _ _ _ (c.in-Ok-look_ordinary.ensures.one.tree one) (c.in-Ok-look_ordinary.ensures.two.tree two))
 
 pub returns-in_default-clause-report : goal.returns-in_default-clause-report
 returns-in_default-clause-report g c one two work sink =
-    let a = g.A.Remote.state c.args.one.now in
-    let b = g.B.Remote.state c.args.two.now in
-    let a2 = g.A.Remote.state c.look_ordinary.new.one in
-    let b2 = g.B.Remote.state c.look_ordinary.new.two in
-    let looked = untouched a b a2 b2 (c.in-Ok-look_ordinary.ensures.one.tree one) (c.in-Ok-look_ordinary.ensures.two.tree two) in
-    inr (inl (refl, looked))
+    inr (inl (refl, untouched _ _ _ _ (c.in-Ok-look_ordinary.ensures.one.tree one) (c.in-Ok-look_ordinary.ensures.two.tree two)))
 
 pub returns-then-opts-clause-trees : goal.returns-then-opts-clause-trees
 returns-then-opts-clause-trees g c one two work =
-    let a = g.A.Remote.state c.args.one.now in
-    let b = g.B.Remote.state c.args.two.now in
-    let a2 = g.A.Remote.state c.look_ordinary.new.one in
-    let b2 = g.B.Remote.state c.look_ordinary.new.two in
-    let looked = untouched a b a2 b2 (c.in-Ok-look_ordinary.ensures.one.tree one) (c.in-Ok-look_ordinary.ensures.two.tree two) in
-    inl looked
+    inl (untouched _ _ _ _ (c.in-Ok-look_ordinary.ensures.one.tree one) (c.in-Ok-look_ordinary.ensures.two.tree two))
 
 pub returns-in-Ok-carry_out_ordinary-clause-settled : goal.returns-in-Ok-carry_out_ordinary-clause-settled
 returns-in-Ok-carry_out_ordinary-clause-settled g c work settled =
@@ -427,3 +412,36 @@ returns-clause-begins g c work =
     let s = sides_of c.args.opts.now.compare c.args.entered.now.rules (g.A.Remote.state c.args.one.now) (g.B.Remote.state c.args.two.now) in
     let more = not_only c.args.opts.now.check_sync (sym c.is_only.ensures ∙ c.if-is_only.false) in
     step_begins c.args.opts.now c.args.limits.now f s c.args.entered.now.digest (begun_by c.args.opts.now c.args.limits.now f s c.args.entered.now.digest c.in-Ok.started (c.in-Ok.ensures.starts work) more c.in-Ok-look_ordinary.ensures.had_prior) c.in-Err-carry_out_ordinary.end c.in-Err-carry_out_ordinary.ensures.end
+
+pub returns-in-Ok-carry_out_ordinary-clause-folder_base : goal.returns-in-Ok-carry_out_ordinary-clause-folder_base
+returns-in-Ok-carry_out_ordinary-clause-folder_base g c work =
+    let f = (g.W.Work.state c.args.work.now).folder in
+    let f2 = (g.W.Work.state c.start.new.work).folder in
+    let start = c.in-Ok.ensures.starts work in
+    let small : c.args.limits.now.listing < 2 ^ 64 = omega arith in
+    let fits = are_within c.args.limits.now (prepared_of c.in-Ok.started.stamp c.in-Ok-look_ordinary.look) c.in-Ok-look_ordinary.ensures.within1 c.in-Ok-look_ordinary.ensures.within2 in
+    let ready = ready_to c.args.opts.now c.args.limits.now _ c.args.entered.now.digest f f2 (c.in-Ok.ensures.folder work) c.in-Ok.started start c.in-Ok-look_ordinary.look c.in-Ok-look_ordinary.ensures.compare small fits in
+    kept_or_next c.args.opts.now c.args.limits.now _ c.args.entered.now.digest f f2 (c.in-Ok.ensures.folder work) c.in-Ok.started start c.in-Ok-look_ordinary.look c.in-Ok-look_ordinary.ensures.compare
+    (g.W.Work.state c.carry_out_ordinary.new.work).folder (c.in-Ok-carry_out_ordinary.ensures.folder_base work c.args.limits.now.listing start.base ready)
+
+pub returns-in-Ok-carry_out_ordinary-clause-folder_next : goal.returns-in-Ok-carry_out_ordinary-clause-folder_next
+returns-in-Ok-carry_out_ordinary-clause-folder_next g c work dry more =
+    let f = (g.W.Work.state c.args.work.now).folder in
+    let f2 = (g.W.Work.state c.start.new.work).folder in
+    let start = c.in-Ok.ensures.starts work in
+    let small : c.args.limits.now.listing < 2 ^ 64 = omega arith in
+    let fits = are_within c.args.limits.now (prepared_of c.in-Ok.started.stamp c.in-Ok-look_ordinary.look) c.in-Ok-look_ordinary.ensures.within1 c.in-Ok-look_ordinary.ensures.within2 in
+    let ready = ready_to c.args.opts.now c.args.limits.now _ c.args.entered.now.digest f f2 (c.in-Ok.ensures.folder work) c.in-Ok.started start c.in-Ok-look_ordinary.look c.in-Ok-look_ordinary.ensures.compare small fits in
+    next_in_place c.args.opts.now c.args.limits.now _ c.args.entered.now.digest f f2 (c.in-Ok.ensures.folder work) c.in-Ok.started start c.in-Ok-look_ordinary.look c.in-Ok-look_ordinary.ensures.compare
+    (g.W.Work.state c.carry_out_ordinary.new.work).folder (c.in-Ok-carry_out_ordinary.ensures.next_set work c.args.limits.now.listing start.base ready)
+
+pub returns-clause-folder_base : goal.returns-clause-folder_base
+returns-clause-folder_base g c work =
+    let f = (g.W.Work.state c.args.work.now).folder in
+    let f2 = (g.W.Work.state c.start.new.work).folder in
+    let start = c.in-Ok.ensures.starts work in
+    let small : c.args.limits.now.listing < 2 ^ 64 = omega arith in
+    let fits = are_within c.args.limits.now (prepared_of c.in-Ok.started.stamp c.in-Ok-look_ordinary.look) c.in-Ok-look_ordinary.ensures.within1 c.in-Ok-look_ordinary.ensures.within2 in
+    let ready = ready_to c.args.opts.now c.args.limits.now _ c.args.entered.now.digest f f2 (c.in-Ok.ensures.folder work) c.in-Ok.started start c.in-Ok-look_ordinary.look c.in-Ok-look_ordinary.ensures.compare small fits in
+    kept_or_next c.args.opts.now c.args.limits.now _ c.args.entered.now.digest f f2 (c.in-Ok.ensures.folder work) c.in-Ok.started start c.in-Ok-look_ordinary.look c.in-Ok-look_ordinary.ensures.compare
+    (g.W.Work.state c.carry_out_ordinary.new.work).folder (c.in-Err-carry_out_ordinary.ensures.folder_base work c.args.limits.now.listing start.base ready)

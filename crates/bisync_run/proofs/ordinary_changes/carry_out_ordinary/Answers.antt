@@ -33,3 +33,22 @@ pub returns-clause-settled : goal.returns-clause-settled
 returns-clause-settled g c work settled =
     settled_after (g.W.Work.state c.write_ordinary.new.work).folder (g.W.Work.state c.do_steps.new.work).folder (g.W.Work.state c.switch.new.work).folder
     (c.in-Ok.ensures.synced1 work) (c.in-Ok.ensures.synced2 work) (c.write_ordinary.ensures.settled work settled) (c.do_steps.ensures.lock work) (c.switch.ensures.switches work)
+
+-- # What the work folder alone tells
+
+pub returns-in-Err-do_steps-clause-folder_base : goal.returns-in-Err-do_steps-clause-folder_base
+returns-in-Err-do_steps-clause-folder_base g c work limit before is base has =
+    inl (base_past (g.W.Work.state c.write_ordinary.new.work).folder (g.W.Work.state c.do_steps.new.work).folder (c.do_steps.ensures.lock work) limit base
+    ((c.write_ordinary.ensures.keeps work limit before is.is).base base has))
+
+pub returns-in-Ok-switch-clause-folder_base : goal.returns-in-Ok-switch-clause-folder_base
+returns-in-Ok-switch-clause-folder_base g c work limit before is base has =
+    keeps_or_next limit (g.W.Work.state c.args.work.now).folder (g.W.Work.state c.write_ordinary.new.work).folder (g.W.Work.state c.do_steps.new.work).folder
+    (g.W.Work.state c.switch.new.work).folder c.args.pair before c.args.prepared is (c.write_ordinary.ensures.keeps work limit before is.is)
+    (c.in-Ok.ensures.set_back work limit before is) (c.do_steps.ensures.lock work) (c.switch.ensures.switches work) base has
+
+pub returns-clause-folder_base : goal.returns-clause-folder_base
+returns-clause-folder_base g c work limit before is base has =
+    keeps_or_next limit (g.W.Work.state c.args.work.now).folder (g.W.Work.state c.write_ordinary.new.work).folder (g.W.Work.state c.do_steps.new.work).folder
+    (g.W.Work.state c.switch.new.work).folder c.args.pair before c.args.prepared is (c.write_ordinary.ensures.keeps work limit before is.is)
+    (c.in-Ok.ensures.set_back work limit before is) (c.do_steps.ensures.lock work) (c.switch.ensures.switches work) base has

@@ -26,3 +26,15 @@ returns-clause-base g c one two work limit small fits base is =
     inr (⊎_elim inl (λ next. inr (next, done))
     (none_or_next limit (g.W.Work.state c.write_resync.new.work).folder (g.W.Work.state c.do_steps.new.work).folder (g.W.Work.state c.switch.new.work).folder
     (next_base c.args.prepared) small (c.in-Ok.ensures.no_base work limit) (c.in-Ok.ensures.ready work limit fits.one fits.two) (c.in-Ok-do_steps.ensures.lock work) (c.switch.ensures.switches work)))
+
+-- # What the work folder alone tells
+
+pub returns-in-Ok-switch-clause-folder_base : goal.returns-in-Ok-switch-clause-folder_base
+returns-in-Ok-switch-clause-folder_base g c work limit small fits base is =
+    inr (none_or_next limit (g.W.Work.state c.write_resync.new.work).folder (g.W.Work.state c.do_steps.new.work).folder (g.W.Work.state c.switch.new.work).folder
+    (next_base c.args.prepared) small (c.in-Ok.ensures.no_base work limit) (c.in-Ok.ensures.ready work limit fits.one fits.two) (c.in-Ok-do_steps.ensures.lock work) (c.switch.ensures.switches work))
+
+pub returns-clause-folder_base : goal.returns-clause-folder_base
+returns-clause-folder_base g c work limit small fits base is =
+    inr (none_or_next limit (g.W.Work.state c.write_resync.new.work).folder (g.W.Work.state c.do_steps.new.work).folder (g.W.Work.state c.switch.new.work).folder
+    (next_base c.args.prepared) small (c.in-Ok.ensures.no_base work limit) (c.in-Ok.ensures.ready work limit fits.one fits.two) (c.in-Ok-do_steps.ensures.lock work) (c.switch.ensures.switches work))

@@ -4,6 +4,7 @@ use Rattle.bisync_model.specs.Trees.{by_side}
 use Rattle.bisync_run.specs.Sides.{sides_of}
 use Rattle.bisync_run.proofs.DoneSteps.{looked_told}
 use Rattle.bisync_run.proofs.EndCases.{device_answers, step_may_change, told_device}
+use Rattle.bisync_run.proofs.FolderBases.{carried_in_place, lost_or_next}
 use Rattle.bisync_run.proofs.HeldLaws.{untouched, same_windows, looked_base, are_within, aside_held, base_held, done_held, trees_held, finds_held, lines_held, numbers_held}
 use Rattle.bisync_run.proofs.ToldGrounds.{step_told}
 use Rattle.bisync_run.proofs.resyncs.resync.Goals as goal
@@ -172,3 +173,32 @@ returns-clause-report g c one two sink =
           ∙ ap (λ (l : List ℕ). (g.S.Sink.state c.args.sink.now).bytes ++ l)
           (lines_held c.args.mode c.args.limits.now c.args.opts.now.compare c.args.entered.now.rules a b a2 b2 f f c.in-Ok.prepared (c.in-Ok.ensures.plan one two) looked windows refl),
     ))
+
+-- # What the work folder alone tells
+
+pub returns-in-Ok-carry_out-clause-folder_base : goal.returns-in-Ok-carry_out-clause-folder_base
+returns-in-Ok-carry_out-clause-folder_base g c work =
+    let f = (g.W.Work.state c.args.work.now).folder in
+    let f2 = (g.W.Work.state c.look_resync.new.work).folder in
+    let small : c.args.limits.now.listing < 2 ^ 64 = omega arith in
+    let fits = are_within c.args.limits.now c.in-Ok.prepared c.in-Ok.ensures.within1 c.in-Ok.ensures.within2 in
+    lost_or_next c.args.limits.now _ f f2 (c.in-Ok.ensures.folder work) c.in-Ok.prepared c.in-Ok.ensures.compare (c.in-Ok.ensures.new_stamp work) (g.W.Work.state c.carry_out.new.work).folder
+    (c.in-Ok-carry_out.ensures.folder_base work c.args.limits.now.listing small fits)
+
+pub returns-in-Ok-carry_out-clause-folder_next : goal.returns-in-Ok-carry_out-clause-folder_next
+returns-in-Ok-carry_out-clause-folder_next g c work dry =
+    let f = (g.W.Work.state c.args.work.now).folder in
+    let f2 = (g.W.Work.state c.look_resync.new.work).folder in
+    let small : c.args.limits.now.listing < 2 ^ 64 = omega arith in
+    let fits = are_within c.args.limits.now c.in-Ok.prepared c.in-Ok.ensures.within1 c.in-Ok.ensures.within2 in
+    carried_in_place c.args.limits.now _ f f2 (c.in-Ok.ensures.folder work) c.in-Ok.prepared c.in-Ok.ensures.compare (c.in-Ok.ensures.new_stamp work) (g.W.Work.state c.carry_out.new.work).folder
+    c.args.entered.now.digest (c.in-Ok-carry_out.ensures.carried_out work c.args.limits.now.listing small fits)
+
+pub returns-clause-folder_base : goal.returns-clause-folder_base
+returns-clause-folder_base g c work =
+    let f = (g.W.Work.state c.args.work.now).folder in
+    let f2 = (g.W.Work.state c.look_resync.new.work).folder in
+    let small : c.args.limits.now.listing < 2 ^ 64 = omega arith in
+    let fits = are_within c.args.limits.now c.in-Ok.prepared c.in-Ok.ensures.within1 c.in-Ok.ensures.within2 in
+    lost_or_next c.args.limits.now _ f f2 (c.in-Ok.ensures.folder work) c.in-Ok.prepared c.in-Ok.ensures.compare (c.in-Ok.ensures.new_stamp work) (g.W.Work.state c.carry_out.new.work).folder
+    (c.in-Err-carry_out.ensures.folder_base work c.args.limits.now.listing small fits)

@@ -13,6 +13,7 @@ use Rattle.bisync_run.proofs.ClosedEnds.{tells_last}
 use Rattle.bisync_run.proofs.ClosedKinds.{no_rise_first, own_told, early_told, fell_told, freed_told, held_told, unlocked_told}
 use Rattle.bisync_run.proofs.InSyncRuns.{in_sync_after, resync_in_sync_after, was_apart}
 use Rattle.bisync_run.proofs.EndLaws.{no_rise_since}
+use Rattle.bisync_run.proofs.FolderBases.{folder_images}
 use Rattle.bisync_run.proofs.OrdinaryTold.{ordinary_told, resilient_images, run_answers_told, run_images, run_tells_last}
 use Rattle.bisync_run.proofs.SafeRuns.{keeps_safe}
 use Rattle.bisync_run.proofs.ToldEnds.{after_good_told, good_told, told_same, answers_told, images}
@@ -275,6 +276,18 @@ returns-clause-begins g c none work =
 pub returns-clause-begun : goal.returns-clause-begun
 returns-clause-begun g c none work good =
     c.run_to_close-end.ensures.begun none work (after_good_told c.run_to_close-end.result c.tell_end.result c.tell_end.ensures.end good)
+
+pub returns-clause-folder_base : goal.returns-clause-folder_base
+returns-clause-folder_base g c work = c.run_to_close-end.ensures.folder_base work
+
+pub returns-clause-folder_images : goal.returns-clause-folder_images
+returns-clause-folder_images g c work settled image is =
+    folder_images c.args.opts.now c.args.limits.now (by_side (g.A.Remote.state c.args.one.now) (g.B.Remote.state c.args.two.now)) (g.W.Work.state c.args.work.now).folder (g.W.Work.state c.run_to_close-end.new.work).folder image
+    (c.run_to_close-end.ensures.folder_base work) (c.run_to_close-end.ensures.settled work settled) is
+
+pub returns-clause-folder_next : goal.returns-clause-folder_next
+returns-clause-folder_next g c work writes good =
+    c.run_to_close-end.ensures.folder_next work writes (after_good_told c.run_to_close-end.result c.tell_end.result c.tell_end.ensures.end good)
 
 -- # Where both sides agree
 
