@@ -1,8 +1,10 @@
 pub mod LineLaws
+pub mod NewlineLaws
 pub mod FieldLaws
 pub mod PartLaws
 pub mod HexLaws
 pub mod SpellingLaws
+pub mod PlainQuotes
 pub mod HeaderLaws
 pub mod TextLaws
 pub mod FrontLaws

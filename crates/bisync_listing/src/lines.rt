@@ -4,6 +4,7 @@ ghost use Rattle.std.specs.Prelude.{◌≡◌, ℕ, ◌+◌, ◌<◌, ◌==◌, 
 ghost use Rattle.bisync_listing.specs.Words.{Lacks};
 
 use bisync_text::OutOfMemory;
+use memchr::memchr;
 use std::alloc::Global;
 use std::marker::Model;
 
@@ -71,5 +72,5 @@ pub(crate) fn newline_in(bytes: &[u8]) -> Option<usize>
         × (bytes.now ≡ take at bytes.now ++ 10 ∷ drop (at + 1) bytes.now)) }
     ensures none { IfNone result (Lacks 10 bytes.now) }
 {
-    bytes.iter().position(|b| *b == b'\n')
+    memchr(b'\n', bytes)
 }

@@ -2,7 +2,7 @@
 
 ghost use Rattle.std.specs.Prelude.{◌≡◌, ℕ, ◌+◌, ◌*◌, ◌<◌, ◌≤◌, [], ◌∷◌, ◌++◌, length, Option, Some, decimal};
 ghost use Rattle.bisync_text.specs.Path.{IsPath};
-ghost use Rattle.bisync_text.specs.Quote.{hex_digit, quoted};
+ghost use Rattle.bisync_text.specs.Quote.{hex_digit, quoted, quoted_byte};
 ghost use Rattle.bisync_listing.specs.Words.{ended};
 ghost use Rattle.bisync_listing.specs.Spelling.{header_line, file_line, end_line, digest_text, hex_digits};
 
@@ -70,6 +70,19 @@ fn put_digest(line: &mut LineBuffer, hash: &Option<[u8; 16]>)
     }
 }
 
+// A byte that stands for itself, as most do, is written by a call that copies no slice.
+fn put_quoted_byte(line: &mut LineBuffer, byte: u8)
+    requires { length line.old + 4 ≤ 16484 }
+    ensures bytes { line.new ≡ line.old ++ quoted_byte byte }
+    ensures len { length line.new ≤ length line.old + 4 }
+{
+    let quoted = QuotedByte::new(byte);
+    match quoted.as_bytes() {
+        [plain] => line.push(*plain),
+        escape => line.push_all(escape),
+    }
+}
+
 #[tactic(auto, unfolding(bisync_text::specs::Quote::quoted))]
 fn put_quoted(line: &mut LineBuffer, bytes: &[u8])
     requires { length line.old + 4 * length bytes.now + 2 ≤ 16484 }
@@ -78,7 +91,7 @@ fn put_quoted(line: &mut LineBuffer, bytes: &[u8])
 {
     line.push(b'"');
     for byte in bytes {
-        line.push_all(QuotedByte::new(*byte).as_bytes());
+        put_quoted_byte(line, *byte);
     }
     line.push(b'"');
 }
