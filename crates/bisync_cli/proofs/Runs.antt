@@ -50,11 +50,11 @@ kept_images_same (Ok NoTask) One Two Works limits f start = tt
 kept_images_same (Err kind) One Two Works limits f start = tt
 
 -- the same, as the work folder alone tells it
-pub folder_images_same : (read : Result Task UsageKind) (Works : Type 0) (limits : Limits) (f : WorkFolder) (start : Remotes)
-    → OfTask read (λ opts. Works → IsSettled f → (image : WorkFolder) → IsImage f image → LeavesFolderBase opts limits f start image)
-folder_images_same (Ok (Run opts)) Works limits f start = λ work settled image image_is base was. inl ((image_keeps limits.listing f image settled image_is).base base was)
-folder_images_same (Ok NoTask) Works limits f start = tt
-folder_images_same (Err kind) Works limits f start = tt
+pub folder_images_same : (read : Result Task UsageKind) (Works : Type 0) (limits : Limits) (f : WorkFolder) (start : Remotes) (end : End)
+    → OfTask read (λ opts. Works → IsSettled f → (image : WorkFolder) → IsImage f image → LeavesFolderBase opts limits f start end image)
+folder_images_same (Ok (Run opts)) Works limits f start end = λ work settled image image_is base was. inl ((image_keeps limits.listing f image settled image_is).base base was)
+folder_images_same (Ok NoTask) Works limits f start end = tt
+folder_images_same (Err kind) Works limits f start end = tt
 
 -- what is safe in an untouched folder is safe in its images
 pub safe_same : (read : Result Task UsageKind) (One Two Works : Type 0) (limits : Limits) → limits.listing < 2 ^ 64 → (f : WorkFolder) (start : Remotes)

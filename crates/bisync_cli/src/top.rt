@@ -1,6 +1,6 @@
 //! The top call.
 
-ghost use Rattle.std.specs.Prelude.{◌≡◌, ◌≢◌, ◌++◌, ◌||◌, ℕ, List, Option, IsTrue, None, Some, true, false};
+ghost use Rattle.std.specs.Prelude.{◌≡◌, ◌≢◌, ◌⊎◌, ◌++◌, ◌||◌, ℕ, List, Option, IsTrue, None, Some, true, false};
 ghost use Rattle.bisync_tree.specs.Rows.{PathBytes};
 ghost use Rattle.bisync_tree.specs.declared.entries.Entry.{Entry};
 ghost use Rattle.bisync_tree.specs.declared.options.Prefer.{Prefer};
@@ -22,7 +22,7 @@ ghost use Rattle.bisync_run.specs.Entering.{AtMoment, HasSomeRules, IsEntryEnd, 
 ghost use Rattle.bisync_run.specs.FolderBases.{LeavesFolderBase, LeavesNextInPlace, Writes};
 ghost use Rattle.bisync_run.specs.Grounds.{HasGrounds, IsTold};
 ghost use Rattle.bisync_run.specs.LockNew.{KeepsLockNew};
-ghost use Rattle.bisync_run.specs.Ordinary.{but_ordinary_or_fallen};
+ghost use Rattle.bisync_run.specs.Ordinary.{KeepsOrdinaryRest};
 ghost use Rattle.bisync_run.specs.OrdinaryEnds.{IsOrdinaryEnd};
 ghost use Rattle.bisync_run.specs.OrdinaryRuns.{AnswersOrdinaryRun, HasOrdinaryNumbers, IsDoneBy, IsUnrefused, KeepsOrdinaryBaseOf, KeepsSafe, LeavesOrdinaryBaseOf, LeavesOrdinaryTreesOf, TellsOrdinaryRun};
 ghost use Rattle.bisync_run.specs.ResyncEnds.{IsResyncEnd};
@@ -64,10 +64,8 @@ pub fn bisync_main<A: Folders, B: Folders, K: Remote, L: Remote, W: Work, C: Clo
     ensures clock { asks_run words.now ≡ false → clock.new ≡ clock.old }
     ensures told { asks_run words.now ≡ false → IsTrue S.tells → (Rose (S.state sink.old).faults (S.state sink.new).faults → ⊥) →
         (S.state sink.new).bytes ≡ (S.state sink.old).bytes ++ last_text result.end }
-    ensures answers { OfRun words.now (λ opts. IsTrue A.tells → IsTrue B.tells → IsTrue W.tells → (mode : Prefer) → opts.resync ≡ Some mode →
-        AnswersRun mode opts Limits.REAL (W.state work.old).folder (by_side (A.state one.old) (B.state two.old)) C.tells (C.moment clock.old) result.end) }
-    ensures accepted { OfRun words.now (λ opts. IsTrue A.tells → IsTrue B.tells → IsTrue W.tells → (mode : Prefer) → opts.resync ≡ Some mode → is_after_good result.end ≡ true →
-        HasNoRefusal mode opts Limits.REAL (W.state work.old).folder (by_side (A.state one.old) (B.state two.old)) C.tells (C.moment clock.old)) }
+    ensures answers { OfRun words.now (λ opts. IsTrue A.tells → IsTrue B.tells → IsTrue W.tells → (mode : Prefer) → opts.resync ≡ Some mode → AnswersRun mode opts Limits.REAL (W.state work.old).folder (by_side (A.state one.old) (B.state two.old)) C.tells (C.moment clock.old) result.end) }
+    ensures accepted { OfRun words.now (λ opts. IsTrue A.tells → IsTrue B.tells → IsTrue W.tells → (mode : Prefer) → opts.resync ≡ Some mode → is_after_good result.end ≡ true → HasNoRefusal mode opts Limits.REAL (W.state work.old).folder (by_side (A.state one.old) (B.state two.old)) C.tells (C.moment clock.old)) }
     ensures resynced { OfRun words.now (λ opts. IsTrue A.tells → IsTrue B.tells → IsTrue W.tells → (mode : Prefer) → opts.resync ≡ Some mode → opts.dry_run ≡ false → is_after_good result.end ≡ true →
         IsResyncedBy mode opts Limits.REAL (W.state work.old).folder (by_side (A.state one.old) (B.state two.old)) (W.state work.new).folder (by_side (A.state one.new) (B.state two.new))) }
     ensures set_aside { OfRun words.now (λ opts. IsTrue W.tells → (mode : Prefer) → opts.resync ≡ Some mode → opts.dry_run ≡ false → is_after_good result.end ≡ true →
@@ -75,26 +73,20 @@ pub fn bisync_main<A: Folders, B: Folders, K: Remote, L: Remote, W: Work, C: Clo
     ensures only { OfRun words.now (λ opts. (mode : Prefer) → opts.resync ≡ Some mode → IsResyncEnd opts result.end) }
     ensures numbers { OfRun words.now (λ opts. IsTrue A.tells → IsTrue B.tells → IsTrue W.tells → (mode : Prefer) → opts.resync ≡ Some mode →
         is_good result.end ≡ true → HasNumbers mode opts (W.state work.old).folder (by_side (A.state one.old) (B.state two.old)) result.end) }
-    ensures base { OfRun words.now (λ opts. IsTrue A.tells → IsTrue B.tells → IsTrue W.tells → (mode : Prefer) → opts.resync ≡ Some mode →
-        LeavesBaseOf mode opts Limits.REAL (W.state work.old).folder (by_side (A.state one.old) (B.state two.old)) (W.state work.new).folder (by_side (A.state one.new) (B.state two.new))) }
+    ensures base { OfRun words.now (λ opts. IsTrue A.tells → IsTrue B.tells → IsTrue W.tells → (mode : Prefer) → opts.resync ≡ Some mode → LeavesBaseOf mode opts Limits.REAL (W.state work.old).folder (by_side (A.state one.old) (B.state two.old)) (W.state work.new).folder (by_side (A.state one.new) (B.state two.new))) }
     ensures images { OfRun words.now (λ opts. IsTrue A.tells → IsTrue B.tells → IsTrue W.tells → (mode : Prefer) → opts.resync ≡ Some mode →
         IsSettled (W.state work.old).folder → (image : WorkFolder) → IsImage (W.state work.new).folder image → LeavesBaseOf mode opts Limits.REAL (W.state work.old).folder (by_side (A.state one.old) (B.state two.old)) image (by_side (A.state one.new) (B.state two.new))) }
-    ensures trees { OfRun words.now (λ opts. IsTrue A.tells → IsTrue B.tells → IsTrue W.tells → (mode : Prefer) → opts.resync ≡ Some mode →
-        LeavesTreesOf mode opts Limits.REAL (W.state work.old).folder (by_side (A.state one.old) (B.state two.old)) C.tells (C.moment clock.old) (by_side (A.state one.new) (B.state two.new))) }
+    ensures trees { OfRun words.now (λ opts. IsTrue A.tells → IsTrue B.tells → IsTrue W.tells → (mode : Prefer) → opts.resync ≡ Some mode → LeavesTreesOf mode opts Limits.REAL (W.state work.old).folder (by_side (A.state one.old) (B.state two.old)) C.tells (C.moment clock.old) (by_side (A.state one.new) (B.state two.new))) }
     ensures run_answers { OfRun words.now (λ opts. opts.resync ≡ None → IsTrue A.tells → IsTrue B.tells → IsTrue W.tells →
         AnswersOrdinaryRun opts Limits.REAL (W.state work.old).folder (by_side (A.state one.old) (B.state two.old)) C.tells (C.moment clock.old) result.end) }
-    ensures unrefused { OfRun words.now (λ opts. opts.resync ≡ None → IsTrue A.tells → IsTrue B.tells → IsTrue W.tells → is_after_good result.end ≡ true →
-        IsUnrefused opts Limits.REAL (W.state work.old).folder (by_side (A.state one.old) (B.state two.old)) C.tells (C.moment clock.old)) }
+    ensures unrefused { OfRun words.now (λ opts. opts.resync ≡ None → IsTrue A.tells → IsTrue B.tells → IsTrue W.tells → is_after_good result.end ≡ true → IsUnrefused opts Limits.REAL (W.state work.old).folder (by_side (A.state one.old) (B.state two.old)) C.tells (C.moment clock.old)) }
     ensures begins { OfRun words.now (λ opts. opts.resync ≡ None → IsTrue W.tells → AnswersBeginningOf opts Limits.REAL (W.state work.old).folder (by_side (A.state one.old) (B.state two.old)) C.tells (C.moment clock.old) result.end) }
     ensures begun { OfRun words.now (λ opts. opts.resync ≡ None → IsTrue W.tells → is_after_good result.end ≡ true → IsWellBegunOf opts Limits.REAL (W.state work.old).folder (by_side (A.state one.old) (B.state two.old)) C.tells (C.moment clock.old)) }
     ensures done { OfRun words.now (λ opts. opts.resync ≡ None → IsTrue A.tells → IsTrue B.tells → IsTrue W.tells → opts.dry_run ≡ false → opts.check_sync ≢ CheckSync.Only → is_after_good result.end ≡ true →
         IsDoneBy opts Limits.REAL (W.state work.old).folder (by_side (A.state one.old) (B.state two.old)) (W.state work.new).folder (by_side (A.state one.new) (B.state two.new))) }
-    ensures in_sync { OfRun words.now (λ opts. opts.resync ≡ None → IsTrue A.tells → IsTrue B.tells → IsTrue W.tells → opts.dry_run ≡ false → opts.check_sync ≢ CheckSync.Only → is_after_good result.end ≡ true →
-        LeavesInSync opts Limits.REAL (W.state work.old).folder (by_side (A.state one.old) (B.state two.old)) (by_side (A.state one.new) (B.state two.new))) }
-    ensures was_apart { OfRun words.now (λ opts. opts.resync ≡ None → IsTrue A.tells → IsTrue B.tells → IsTrue W.tells → (p : PathBytes) (first second : Option Entry) → result.end ≡ OutOfSync p first second →
-        WasApartBefore opts Limits.REAL (W.state work.old).folder (by_side (A.state one.old) (B.state two.old))) }
-    ensures resync_in_sync { OfRun words.now (λ opts. IsTrue A.tells → IsTrue B.tells → IsTrue W.tells → (mode : Prefer) → opts.resync ≡ Some mode → opts.dry_run ≡ false → is_after_good result.end ≡ true →
-        LeavesResyncInSync mode opts (W.state work.old).folder (by_side (A.state one.old) (B.state two.old)) (by_side (A.state one.new) (B.state two.new))) }
+    ensures in_sync { OfRun words.now (λ opts. opts.resync ≡ None → IsTrue A.tells → IsTrue B.tells → IsTrue W.tells → opts.dry_run ≡ false → opts.check_sync ≢ CheckSync.Only → is_after_good result.end ≡ true → LeavesInSync opts Limits.REAL (W.state work.old).folder (by_side (A.state one.old) (B.state two.old)) (by_side (A.state one.new) (B.state two.new))) }
+    ensures was_apart { OfRun words.now (λ opts. opts.resync ≡ None → IsTrue A.tells → IsTrue B.tells → IsTrue W.tells → (p : PathBytes) (first second : Option Entry) → result.end ≡ OutOfSync p first second → WasApartBefore opts Limits.REAL (W.state work.old).folder (by_side (A.state one.old) (B.state two.old))) }
+    ensures resync_in_sync { OfRun words.now (λ opts. IsTrue A.tells → IsTrue B.tells → IsTrue W.tells → (mode : Prefer) → opts.resync ≡ Some mode → opts.dry_run ≡ false → is_after_good result.end ≡ true → LeavesResyncInSync mode opts (W.state work.old).folder (by_side (A.state one.old) (B.state two.old)) (by_side (A.state one.new) (B.state two.new))) }
     ensures run_numbers { OfRun words.now (λ opts. opts.resync ≡ None → IsTrue A.tells → IsTrue B.tells → IsTrue W.tells → is_good result.end ≡ true → HasOrdinaryNumbers opts Limits.REAL (W.state work.old).folder (by_side (A.state one.old) (B.state two.old)) result.end) }
     ensures run_base { OfRun words.now (λ opts. opts.resync ≡ None → IsTrue A.tells → IsTrue B.tells → IsTrue W.tells →
         LeavesOrdinaryBaseOf opts Limits.REAL (W.state work.old).folder (by_side (A.state one.old) (B.state two.old)) (W.state work.new).folder (by_side (A.state one.new) (B.state two.new))) }
@@ -102,7 +94,7 @@ pub fn bisync_main<A: Folders, B: Folders, K: Remote, L: Remote, W: Work, C: Clo
         KeepsOrdinaryBaseOf opts Limits.REAL (W.state work.old).folder (by_side (A.state one.old) (B.state two.old)) (W.state work.new).folder (by_side (A.state one.new) (B.state two.new))) }
     ensures run_trees { OfRun words.now (λ opts. opts.resync ≡ None → IsTrue A.tells → IsTrue B.tells → IsTrue W.tells →
         LeavesOrdinaryTreesOf opts Limits.REAL (W.state work.old).folder (by_side (A.state one.old) (B.state two.old)) C.tells (C.moment clock.old) (by_side (A.state one.new) (B.state two.new))) }
-    ensures run_rest { OfRun words.now (λ opts. opts.resync ≡ None → IsTrue W.tells → but_ordinary_or_fallen (W.state work.new).folder ≡ but_ordinary_or_fallen (W.state work.old).folder) }
+    ensures run_rest { OfRun words.now (λ opts. opts.resync ≡ None → IsTrue W.tells → KeepsOrdinaryRest (lets_fall opts.resilient opts.dry_run result.end) (W.state work.old).folder (W.state work.new).folder) }
     ensures only_run { OfRun words.now (λ opts. opts.resync ≡ None → IsOrdinaryEnd opts (compare_in opts.compare (A.state one.old).window (B.state two.old).window) result.end) }
     ensures run_images { OfRun words.now (λ opts. opts.resync ≡ None → IsTrue A.tells → IsTrue B.tells → IsTrue W.tells →
         IsSettled (W.state work.old).folder → (image : WorkFolder) → IsImage (W.state work.new).folder image → LeavesOrdinaryBaseOf opts Limits.REAL (W.state work.old).folder (by_side (A.state one.old) (B.state two.old)) image (by_side (A.state one.new) (B.state two.new))) }
@@ -115,8 +107,8 @@ pub fn bisync_main<A: Folders, B: Folders, K: Remote, L: Remote, W: Work, C: Clo
     ensures only_base { OfRun words.now (λ opts. opts.resync ≡ None → opts.check_sync ≡ CheckSync.Only → IsTrue W.tells → is_after_good result.end ≡ true → ChangesLock (W.state work.old).folder (W.state work.new).folder) }
     ensures entered { OfRun words.now (λ opts. IsTrue W.tells → is_before_lock result.end ≡ false → AtMoment C.tells (C.moment clock.old) (λ now. IsFree now (W.state work.old).folder.lock) × HasSomeRules opts.filters (W.state work.old).folder) }
     ensures blocked { IsTrue W.tells → AtMoment C.tells (C.moment clock.old) (λ now. KeepsBlocking now (W.state work.old).folder (W.state work.new).folder) }
-    ensures folder_base { OfRun words.now (λ opts. IsTrue W.tells → LeavesFolderBase opts Limits.REAL (W.state work.old).folder (by_side (A.state one.old) (B.state two.old)) (W.state work.new).folder) }
-    ensures folder_images { OfRun words.now (λ opts. IsTrue W.tells → IsSettled (W.state work.old).folder → (image : WorkFolder) → IsImage (W.state work.new).folder image → LeavesFolderBase opts Limits.REAL (W.state work.old).folder (by_side (A.state one.old) (B.state two.old)) image) }
+    ensures folder_base { OfRun words.now (λ opts. IsTrue W.tells → LeavesFolderBase opts Limits.REAL (W.state work.old).folder (by_side (A.state one.old) (B.state two.old)) result.end (W.state work.new).folder) }
+    ensures folder_images { OfRun words.now (λ opts. IsTrue W.tells → IsSettled (W.state work.old).folder → (image : WorkFolder) → IsImage (W.state work.new).folder image → LeavesFolderBase opts Limits.REAL (W.state work.old).folder (by_side (A.state one.old) (B.state two.old)) result.end image) }
     ensures folder_next { OfRun words.now (λ opts. IsTrue W.tells → Writes opts → is_after_good result.end ≡ true → LeavesNextInPlace opts Limits.REAL (W.state work.old).folder (by_side (A.state one.old) (B.state two.old)) (W.state work.new).folder) }
     ensures settled { IsTrue W.tells → IsSettled (W.state work.old).folder → IsSettled (W.state work.new).folder }
     ensures rest { IsTrue W.tells → but_run (W.state work.new).folder ≡ but_run (W.state work.old).folder }
@@ -125,14 +117,13 @@ pub fn bisync_main<A: Folders, B: Folders, K: Remote, L: Remote, W: Work, C: Clo
     ensures kept { OfRun words.now (λ opts. IsTrue W.tells → may_have_changed result.end ≡ false → lets_fall opts.resilient opts.dry_run result.end ≡ false → ChangesLock (W.state work.old).folder (W.state work.new).folder) }
     ensures only_fallen { IsTrue W.tells → may_have_changed result.end ≡ false → but_fallen_or_lock (W.state work.new).folder ≡ but_fallen_or_lock (W.state work.old).folder }
     ensures fallen { OfRun words.now (λ opts. IsTrue W.tells → lets_fall opts.resilient opts.dry_run result.end ≡ true → (Rose (W.state work.old).faults (W.state work.new).faults → ⊥) → HasNoListings (W.state work.new).folder) }
-    ensures fell { OfRun words.now (λ opts. IsTrue W.tells → may_have_changed result.end ≡ false → lets_fall opts.resilient opts.dry_run result.end ≡ true → (Rose (W.state work.old).faults (W.state work.new).faults → ⊥) →
-        IsFallen (W.state work.old).folder (W.state work.new).folder) }
+    ensures fell { OfRun words.now (λ opts. IsTrue W.tells → may_have_changed result.end ≡ false → lets_fall opts.resilient opts.dry_run result.end ≡ true → (Rose (W.state work.old).faults (W.state work.new).faults → ⊥) → IsFallen (W.state work.old).folder (W.state work.new).folder) }
     ensures dry_one { OfRun words.now (λ opts. opts.dry_run ≡ true → KeepsTree A.tells (A.state one.old) (A.state one.new)) }
     ensures dry_two { OfRun words.now (λ opts. opts.dry_run ≡ true → KeepsTree B.tells (B.state two.old) (B.state two.new)) }
     ensures dry { OfRun words.now (λ opts. IsTrue W.tells → opts.dry_run ≡ true → ChangesLock (W.state work.old).folder (W.state work.new).folder) }
     ensures lock { OfRun words.now (λ opts. IsTrue W.tells → (Rose (W.state work.old).faults (W.state work.new).faults → ⊥) → LeavesLock result.end (W.state work.old).folder (W.state work.new).folder) }
     ensures freed { IsTrue W.tells → has_freed result.end ≡ true → (W.state work.new).folder.lock ≡ Absent }
-    ensures lock_new { IsTrue W.tells → (Rose (W.state work.old).faults (W.state work.new).faults → ⊥) → KeepsLockNew (W.state work.old).folder (W.state work.new).folder }
+    ensures lock_new { IsTrue W.tells → (is_after_good result.end ≡ true) ⊎ (Rose (W.state work.old).faults (W.state work.new).faults → ⊥) → KeepsLockNew (W.state work.old).folder (W.state work.new).folder }
     ensures no_digest { OfRun words.now (λ opts. IsTrue W.tells → opts.filters ≡ None → (W.state work.new).folder.filters_md5 ≡ (W.state work.old).folder.filters_md5) }
     ensures entry { OfRun words.now (λ opts. IsTrue W.tells → is_unlocked result.end ≡ true → IsEntryEnd opts.filters (W.state work.old).folder C.tells (C.moment clock.old) result.end) }
     ensures held_back { IsTrue C.tells → IsHeldBack (C.moment clock.old) result.end }
@@ -145,11 +136,9 @@ pub fn bisync_main<A: Folders, B: Folders, K: Remote, L: Remote, W: Work, C: Clo
     ensures later { Later (counts (A.state one.old).faults (B.state two.old).faults (W.state work.old).faults (S.state sink.old).faults) (counts (A.state one.new).faults (B.state two.new).faults (W.state work.new).faults (S.state sink.new).faults) }
     ensures causes { OfRun words.now (λ opts.
         Ends (counts (A.state one.old).faults (B.state two.old).faults (W.state work.old).faults (S.state sink.old).faults) (counts (A.state one.new).faults (B.state two.new).faults (W.state work.new).faults (S.state sink.new).faults) result.end) }
-    ensures quiet { IsTrue S.tells → (Rose (S.state sink.old).faults (S.state sink.new).faults → ⊥) → may_tell_plan result.end ≡ false →
-        (S.state sink.new).bytes ≡ (S.state sink.old).bytes ++ last_text result.end }
+    ensures quiet { IsTrue S.tells → (Rose (S.state sink.old).faults (S.state sink.new).faults → ⊥) → may_tell_plan result.end ≡ false → (S.state sink.new).bytes ≡ (S.state sink.old).bytes ++ last_text result.end }
     ensures only_quiet { OfRun words.now (λ opts. opts.resync ≡ None → opts.check_sync ≡ CheckSync.Only → IsTrue S.tells → (Rose (S.state sink.old).faults (S.state sink.new).faults → ⊥) → (S.state sink.new).bytes ≡ (S.state sink.old).bytes ++ last_text result.end) }
-    ensures lines { IsTrue S.tells → (Rose (S.state sink.old).faults (S.state sink.new).faults → ⊥) →
-        (lines : List ℕ) × ((S.state sink.new).bytes ≡ ((S.state sink.old).bytes ++ lines) ++ last_text result.end) }
+    ensures lines { IsTrue S.tells → (Rose (S.state sink.old).faults (S.state sink.new).faults → ⊥) → (lines : List ℕ) × ((S.state sink.new).bytes ≡ ((S.state sink.old).bytes ++ lines) ++ last_text result.end) }
     ensures report { OfRun words.now (λ opts. IsTrue A.tells → IsTrue B.tells → IsTrue S.tells → IsTrue W.tells → (mode : Prefer) → opts.resync ≡ Some mode →
         (Rose (S.state sink.old).faults (S.state sink.new).faults → ⊥) → TellsRun mode opts (W.state work.old).folder (by_side (A.state one.old) (B.state two.old)) (by_side (A.state one.new) (B.state two.new)) (S.state sink.old).bytes (last_text result.end) (S.state sink.new).bytes result.end) }
     ensures run_report { OfRun words.now (λ opts. opts.resync ≡ None → IsTrue A.tells → IsTrue B.tells → IsTrue W.tells → IsTrue S.tells → (Rose (S.state sink.old).faults (S.state sink.new).faults → ⊥) →

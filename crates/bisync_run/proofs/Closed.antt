@@ -15,12 +15,13 @@ use Rattle.bisync_run.specs.Resyncs.{IsMadeAnew, IsResynced, LeavesBase, base_of
 use Rattle.bisync_run.specs.ResyncWriting.{stored}
 use Rattle.bisync_run.specs.Sides.{Sides}
 use Rattle.bisync_run.specs.Untouched.{Remotes}
+use Rattle.bisync_run.proofs.AnswersBefore.{none_before}
 use Rattle.bisync_run.proofs.LockedFolders.{base_past, stamp_before}
 
 module _ (mode : Prefer) (limits : Limits) (s : Sides) (start now : Remotes) where
   made_of : (f g h : WorkFolder) (x : IsMadeAnew mode limits f s g now)
       → IsBase limits.listing h (Some (base_of_trees x.stamp s (now One).tree (now Two).tree)) → IsMadeAnew mode limits f s h now
-  made_of f g h x base = record { trees = x.trees; stamp = x.stamp; new = x.new; base = base }
+  made_of f g h x base = record { accepted = x.accepted; trees = x.trees; stamp = x.stamp; new = x.new; base = base }
 
   -- the base that is left, after the close
   pub base_closed : (f g h : WorkFolder) → LeavesBase mode limits f s start g now → Closes g h → LeavesBase mode limits f s start h now
@@ -40,7 +41,7 @@ module _ (mode : Prefer) (limits : Limits) (s : Sides) (start now : Remotes) whe
       (λ kept. inl kept)
       (λ other. ⊎_elim
       (λ none. inr (inl none))
-      (λ made. inr (inr (record { trees = made.trees; stamp = made.stamp; new = stamp_before f g changes limits.listing made.stamp made.new; base = made.base })))
+      (λ made. inr (inr (record { accepted = none_before mode limits f g changes s made.accepted; trees = made.trees; stamp = made.stamp; new = stamp_before f g changes limits.listing made.stamp made.new; base = made.base })))
       other)
       (leaves base (base_past f g changes limits.listing base is))
 

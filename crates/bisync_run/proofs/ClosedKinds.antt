@@ -1,6 +1,7 @@
 -- What the kind of an end tells of it, from a held course to the run.
 use Rattle.std.proofs.Common.{◌≡◌, ◌≤◌, ◌∙◌, ap, subst, sym, refl, inl, inr, arith, Bool, true, false, List, ℕ, Option, None, Result, Ok, Err}
 use Rattle.std.specs.Prelude.{IfOk, IfErr, IsOk}
+use Rattle.std.proofs.lemmas.Bool.{false_from_ne_true}
 use Rattle.bisync_device.specs.Faults.{Rose}
 use Rattle.bisync_device.specs.WorkFolder.{Absent, WorkFolder, Held}
 use Rattle.bisync_filter.specs.declared.rule_lists.Rule.{Rule}
@@ -118,6 +119,10 @@ early_told end last (inr lost) early = false_true (sym early ∙ ap may_have_cha
 pub fell_told : (resilient dry_run : Bool) (end last : End) → EndsWith end last → lets_fall resilient dry_run last ≡ true → last ≡ end
 fell_told resilient dry_run end last (inl same) fell = same
 fell_told resilient dry_run end last (inr lost) fell = false_true (sym (ap (lets_fall resilient dry_run) lost.1) ∙ fell)
+
+pub unfallen_told : (resilient dry_run : Bool) (end last : End) → EndsWith end last → lets_fall resilient dry_run last ≡ false → lets_fall resilient dry_run end ≡ false
+unfallen_told resilient dry_run end last (inl same) stays = ap (lets_fall resilient dry_run) (sym same) ∙ stays
+unfallen_told resilient dry_run end last (inr lost) stays = false_from_ne_true (lets_fall resilient dry_run end) (good_stays resilient dry_run end lost.0)
 
 pub freed_told : (end last : End) → EndsWith end last → has_freed last ≡ true → has_freed end ≡ true
 freed_told end last (inl same) freed = ap has_freed (sym same) ∙ freed

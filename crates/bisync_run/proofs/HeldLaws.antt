@@ -84,19 +84,20 @@ module _ (mode : Prefer) (limits : Limits) (compare : Compare) (rules : List Rul
   since now done = done_since (by_side a b) (by_side a2 b2) looked windows prepared.plan.steps.items now done
 
   module _ (compared : prepared.compare ≡ s.compare) (new : IsNewStamp limits.listing f prepared.stamp) (g : WorkFolder) (now : Remotes) where
-    made : IsBase limits.listing g (Some (next_base prepared)) → AreDone prepared.plan.steps.items (by_side a2 b2) now → IsMadeAnew mode limits f s g now
-    made base done = record {
+    made : HasNoResyncRefusal mode limits f s → IsBase limits.listing g (Some (next_base prepared)) → AreDone prepared.plan.steps.items (by_side a2 b2) now → IsMadeAnew mode limits f s g now
+    made none base done = record {
+      accepted = none;
       trees = all_done mode compare rules a b prepared plan now (since now done);
       stamp = prepared.stamp;
       new = new;
       base = subst (λ (x : Base). IsBase limits.listing g (Some x)) (next_is mode compare rules a b prepared plan now (since now done) compared) base;
     }
 
-    pub base_held : LeavesOneBase limits.listing prepared f2 (by_side a2 b2) g now → LeavesBase mode limits f s (by_side a b) g now
-    base_held leaves base is =
+    pub base_held : HasNoResyncRefusal mode limits f s → LeavesOneBase limits.listing prepared f2 (by_side a2 b2) g now → LeavesBase mode limits f s (by_side a b) g now
+    base_held accepted leaves base is =
         ⊎_elim
         (λ kept. inl (kept.0, untouched_twice looked kept.1))
-        (λ other. ⊎_elim (λ none. inr (inl none)) (λ next. inr (inr (made next.0 next.1))) other)
+        (λ other. ⊎_elim (λ none. inr (inl none)) (λ next. inr (inr (made accepted next.0 next.1))) other)
         (leaves base (subst (λ (h : WorkFolder). IsBase limits.listing h base) (sym same) is))
 
     pub done_held : (digest : Option (List ℕ)) → AreCarriedOut limits.listing prepared digest f2 g → but_carried g ≡ but_carried f2

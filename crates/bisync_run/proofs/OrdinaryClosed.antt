@@ -12,7 +12,7 @@ use Rattle.bisync_work.specs.Locks.{ChangesLock}
 use Rattle.bisync_work.proofs.BaseLaws.{same_in_pair, same_keeps}
 use Rattle.bisync_run.specs.Closing.{Closes, Unlocks}
 use Rattle.bisync_run.specs.EndKinds.{falls_at_close}
-use Rattle.bisync_run.specs.Ordinary.{AreOnTheWay, IsMadeNext, IsOrdinaryDone, KeepsBaseOrMakesNext, LeavesOrdinaryBase, but_ordinary, but_ordinary_or_fallen}
+use Rattle.bisync_run.specs.Ordinary.{AreOnTheWay, IsMadeNext, IsOrdinaryDone, KeepsBaseOrMakesNext, LeavesOrdinaryBase, KeepsOrdinaryRest, but_ordinary, but_ordinary_or_fallen}
 use Rattle.bisync_run.specs.Resyncs.{base_of_trees}
 use Rattle.bisync_run.specs.Sides.{Sides}
 use Rattle.bisync_run.specs.Untouched.{Remotes}
@@ -89,9 +89,11 @@ module _ (opts : Opts) (limits : Limits) (s : Sides) (digest : Option (List ℕ)
 
 -- # The other names
 
-pub rest_locked : (f g : WorkFolder) → ChangesLock f g → but_ordinary_or_fallen g ≡ but_ordinary_or_fallen f
-rest_locked f g changes = ap but_ordinary_or_fallen changes.rest
+pub rest_locked : (falls : Bool) (f g : WorkFolder) → ChangesLock f g → KeepsOrdinaryRest falls f g
+rest_locked falls f g changes = (ap but_ordinary_or_fallen changes.rest, λ stays. ap but_ordinary changes.rest)
 
-pub rest_closed : (f f2 g h : WorkFolder) → ChangesLock f f2 → but_ordinary g ≡ but_ordinary f2 → Closes g h → but_ordinary_or_fallen h ≡ but_ordinary_or_fallen f
-rest_closed f f2 g h changes kept closes =
-    ap but_ordinary_or_fallen closes.rest ∙ ap (λ (w : WorkFolder). record w { one_err = Absent; two_err = Absent }) kept ∙ rest_locked f f2 changes
+pub rest_closed : (falls : Bool) (f f2 g h : WorkFolder) → ChangesLock f f2 → but_ordinary g ≡ but_ordinary f2 → Closes g h → (falls ≡ false → Unlocks g h) → KeepsOrdinaryRest falls f h
+rest_closed falls f f2 g h changes kept closes unlocks = (
+  ap but_ordinary_or_fallen closes.rest ∙ ap (λ (w : WorkFolder). record w { one_err = Absent; two_err = Absent }) kept ∙ ap but_ordinary_or_fallen changes.rest,
+  λ stays. ap but_ordinary (unlocks stays).rest ∙ kept ∙ ap but_ordinary changes.rest,
+)

@@ -57,6 +57,7 @@ images mode opts limits f start g image now leaves settled is base was =
     (λ made. inr (
       made.0,
       record {
+        accepted = made.1.accepted;
         trees = made.1.trees;
         stamp = made.1.stamp;
         new = made.1.new;

@@ -1,5 +1,5 @@
 -- What carrying out the plan of a resync leaves, whatever call fails.
-use Rattle.std.specs.Prelude.{◌≡◌, ◌⊎◌, ◌≤◌, ℕ, List, length, Option, Some}
+use Rattle.std.specs.Prelude.{◌≡◌, ◌⊎◌, ◌≤◌, ℕ, Bool, true, List, length, Option, Some}
 use Rattle.bisync_listing.specs.Spelling.{listing_text}
 use Rattle.bisync_plan.specs.Plans.{header_of}
 use Rattle.bisync_device.specs.WorkFolder.{Absent, WorkFolder}
@@ -16,10 +16,11 @@ pub record AreWithin (limit : ℕ) (prepared : Prepared) : Type 0 where
   pub one : length (listing_text (header_of prepared.stamp prepared.compare) prepared.plan.final1) ≤ limit
   pub two : length (listing_text (header_of prepared.stamp prepared.compare) prepared.plan.final2) ≤ limit
 
--- The base is the one before, or there is none, or it is the new one, as the work folder alone tells it.
-abbrev pub LosesOrNext : ℕ → Prepared → WorkFolder → WorkFolder → Type 0
-LosesOrNext limit prepared f g =
-    (base : Option Base) → IsBase limit f base → IsBase limit g base ⊎ (HasNoBase limit g ⊎ IsBase limit g (Some (next_base prepared)))
+-- The base is the one before, or there is none or, where it may be, it is the new one, as the work folder alone tells it.
+abbrev pub LosesOrNext : ℕ → Prepared → Bool → WorkFolder → WorkFolder → Type 0
+LosesOrNext limit prepared may f g =
+    (base : Option Base) → IsBase limit f base
+    → IsBase limit g base ⊎ (HasNoBase limit g ⊎ ((may ≡ true) × IsBase limit g (Some (next_base prepared))))
 
 -- The base is the one before, and no side was touched; or there is none; or it is the new one, and all steps are done.
 abbrev pub LeavesOneBase : ℕ → Prepared → WorkFolder → Remotes → WorkFolder → Remotes → Type 0

@@ -51,6 +51,16 @@ abbrev pub has_freed : End → Bool
 has_freed (SinkFault done) = done
 has_freed end = is_good end
 
+-- the ends at which a new base may stand: a good end, those after one, and a fault of the work folder
+abbrev pub may_have_switched : End → Bool
+may_have_switched WorkFault = true
+may_have_switched end = is_after_good end
+
+-- whether it may after a course that ended so: Ok is a good end
+abbrev pub may_have_switched_after : {T : Type 0} → Result T End → Bool
+may_have_switched_after (Ok good) = true
+may_have_switched_after (Err end) = may_have_switched end
+
 -- the ends that may come after a change of a tree
 abbrev pub may_have_changed : End → Bool
 may_have_changed (RemoteFault side) = true

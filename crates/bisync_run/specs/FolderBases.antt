@@ -1,6 +1,6 @@
 -- What a run does to the base of its work folder, as the work folder alone tells it, whether the sides tell what they hold
 -- or not. So of trees nothing is said here.
-use Rattle.std.specs.Prelude.{◌≡◌, ◌≢◌, ◌⊎◌, false, ℕ, Option, Some, None}
+use Rattle.std.specs.Prelude.{◌≡◌, ◌≢◌, ◌⊎◌, true, false, ℕ, List, Option, Some, None}
 use Rattle.bisync_tree.specs.declared.entries.Compare.{Compare}
 use Rattle.bisync_tree.specs.declared.options.Limits.{Limits}
 use Rattle.bisync_tree.specs.declared.sides.Side.TheVariants.{One, Two}
@@ -8,11 +8,16 @@ use Rattle.bisync_plan.specs.Plans.{header_of}
 use Rattle.bisync_device.specs.WorkFolder.{Absent, WorkFolder}
 use Rattle.bisync_opts.specs.declared.options.CheckSync.TheVariants.{Only}
 use Rattle.bisync_opts.specs.declared.options.Opts.{Opts}
+use Rattle.bisync_report.specs.declared.ends.End.{End}
 use Rattle.bisync_work.specs.declared.bases.Pair.{Pair}
 use Rattle.bisync_work.specs.declared.bases.Pair.TheVariants.{Current}
 use Rattle.bisync_work.specs.Base.{Base, ArePair, HasBaseIn, IsBase, HasNoBase}
 use Rattle.bisync_work.specs.Stamps.{IsNewStamp}
-use Rattle.bisync_run.specs.Sides.{compare_in}
+use Rattle.bisync_run.specs.Beginnings.{IsBegun}
+use Rattle.bisync_run.specs.EndKinds.{may_have_switched}
+use Rattle.bisync_run.specs.Entering.{HasSomeRules}
+use Rattle.bisync_run.specs.ResyncRuns.{Matter, sides_in}
+use Rattle.bisync_run.specs.Sides.{Sides, compare_in}
 use Rattle.bisync_run.specs.Untouched.{Remotes}
 
 -- # A new base
@@ -37,18 +42,25 @@ Writes opts = (opts.dry_run ≡ false) × (opts.resync ≡ None → opts.check_s
 
 -- # What is left, whatever call failed
 
--- a run in which listings may fall: no dry run, and a resync or one that isn't resilient
-abbrev pub MayLose : Opts → Type 0
-MayLose opts = (opts.dry_run ≡ false) × ((opts.resync ≢ None) ⊎ (opts.resilient ≡ false))
+-- a run in which listings may fall: its rules were read, it is no dry run, and a resync or one that isn't resilient
+abbrev pub MayLose : Opts → WorkFolder → Type 0
+MayLose opts f = HasSomeRules opts.filters f × (opts.dry_run ≡ false) × ((opts.resync ≢ None) ⊎ (opts.resilient ≡ false))
 
--- The base is the one before, or there is none, where it may be lost, or it is a new one. An ordinary run has a new one only
--- where there was one before, so that a folder without a base stays without one.
-abbrev pub LeavesFolderBase : Opts → Limits → WorkFolder → Remotes → WorkFolder → Type 0
-LeavesFolderBase opts limits f start g =
+-- A run that ended so and may have a new base. It writes, its rules were read, and it ended well or the work folder failed; an
+-- ordinary one had begun, from its base.
+pub record MayTake (opts : Opts) (limits : Limits) (f : WorkFolder) (start : Remotes) (end : End) : Type 0 where
+  pub writes : Writes opts
+  pub switched : may_have_switched end ≡ true
+  pub matter : Matter opts f start
+  pub begun : opts.resync ≡ None → IsBegun opts limits f (sides_in matter) matter.digest
+
+-- The base is the one before, or there is none, or it is a new one, each of the latter only where it may be.
+abbrev pub LeavesFolderBase : Opts → Limits → WorkFolder → Remotes → End → WorkFolder → Type 0
+LeavesFolderBase opts limits f start end g =
     (base : Option Base) → IsBase limits.listing f base
     → IsBase limits.listing g base
-    ⊎ ((MayLose opts × HasNoBase limits.listing g)
-    ⊎ ((opts.resync ≡ None → base ≢ None) × TakesNext limits (compared opts start) f g))
+    ⊎ ((MayLose opts f × HasNoBase limits.listing g)
+    ⊎ (MayTake opts limits f start end × TakesNext limits (compared opts start) f g))
 
 -- # A good end
 
@@ -64,18 +76,28 @@ pub record HasNextInPlace (limits : Limits) (compare : Compare) (f g : WorkFolde
 abbrev pub IsSetBackTo : Limits → WorkFolder → WorkFolder → Type 0
 IsSetBackTo limits f g = (pair : Pair) × (before : Base) × HasBaseIn limits.listing f pair before × ArePair limits.listing g.one_old g.two_old before
 
--- so both are, but for a resync the latter
+-- a new base is in place, and an ordinary run has set back the one before
 abbrev pub LeavesNextInPlace : Opts → Limits → WorkFolder → Remotes → WorkFolder → Type 0
 LeavesNextInPlace opts limits f start g = HasNextInPlace limits (compared opts start) f g × (opts.resync ≡ None → IsSetBackTo limits f g)
 
 -- # Inside this crate
 
--- what a resync that holds the lock leaves
-abbrev pub LosesOrTakesNext : Limits → Compare → WorkFolder → WorkFolder → Type 0
-LosesOrTakesNext limits compare f g =
-    (base : Option Base) → IsBase limits.listing f base → IsBase limits.listing g base ⊎ (HasNoBase limits.listing g ⊎ TakesNext limits compare f g)
+-- what a resync that holds the lock and ended so leaves
+abbrev pub LosesOrTakesNext : Limits → Compare → End → WorkFolder → WorkFolder → Type 0
+LosesOrTakesNext limits compare end f g =
+    (base : Option Base) → IsBase limits.listing f base
+    → IsBase limits.listing g base ⊎ (HasNoBase limits.listing g ⊎ ((may_have_switched end ≡ true) × TakesNext limits compare f g))
 
 -- and what an ordinary run does
-abbrev pub KeepsOrTakesNext : Limits → Compare → WorkFolder → WorkFolder → Type 0
-KeepsOrTakesNext limits compare f g =
-    (base : Option Base) → IsBase limits.listing f base → IsBase limits.listing g base ⊎ ((base ≢ None) × TakesNext limits compare f g)
+abbrev pub KeepsOrTakesNext : Opts → Limits → Sides → Option (List ℕ) → End → WorkFolder → WorkFolder → Type 0
+KeepsOrTakesNext opts limits s digest end f g =
+    (base : Option Base) → IsBase limits.listing f base
+    → IsBase limits.listing g base ⊎ ((may_have_switched end ≡ true) × IsBegun opts limits f s digest × TakesNext limits s.compare f g)
+
+-- and what either does: listings fall in no dry run, and before the close only in a resync
+abbrev pub LeavesHeldBase : Opts → Limits → Sides → Option (List ℕ) → End → WorkFolder → WorkFolder → Type 0
+LeavesHeldBase opts limits s digest end f g =
+    (base : Option Base) → IsBase limits.listing f base
+    → IsBase limits.listing g base
+    ⊎ (((opts.dry_run ≡ false) × (opts.resync ≢ None) × HasNoBase limits.listing g)
+    ⊎ (Writes opts × (may_have_switched end ≡ true) × (opts.resync ≡ None → IsBegun opts limits f s digest) × TakesNext limits s.compare f g))

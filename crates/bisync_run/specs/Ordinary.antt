@@ -1,5 +1,5 @@
 -- What an ordinary run leaves, at whatever moment it ends. The trees, the base and the report are this project's own.
-use Rattle.std.specs.Prelude.{◌≡◌, ◌≢◌, ◌⊎◌, ◌+◌, ◌++◌, ℕ, List, true, false, Option, Some, Result, Ok, Err}
+use Rattle.std.specs.Prelude.{◌≡◌, ◌≢◌, ◌⊎◌, ◌+◌, ◌++◌, ℕ, Bool, List, true, false, Option, Some, Result, Ok, Err}
 use Rattle.bisync_tree.specs.declared.sides.Side.{Side}
 use Rattle.bisync_tree.specs.declared.sides.Side.TheVariants.{One, Two}
 use Rattle.bisync_tree.specs.declared.options.Limits.{Limits}
@@ -57,6 +57,10 @@ but_ordinary f = record f { one = Absent; two = Absent; one_old = Absent; two_ol
 -- all but those names and the -err names, over which listings fall
 abbrev pub but_ordinary_or_fallen : WorkFolder → WorkFolder
 but_ordinary_or_fallen f = record (but_ordinary f) { one_err = Absent; two_err = Absent }
+
+-- No name changes but those of listings and the lock and, where listings may fall, the -err names.
+abbrev pub KeepsOrdinaryRest : Bool → WorkFolder → WorkFolder → Type 0
+KeepsOrdinaryRest falls f g = (but_ordinary_or_fallen g ≡ but_ordinary_or_fallen f) × (falls ≡ false → but_ordinary g ≡ but_ordinary f)
 
 -- An ordinary run was done. Both trees are what it is to leave, their listings are the base, under the first names, with the
 -- new stamp of the folder f; the base before stands under the -old names, all else is as before, and the changes are counted.

@@ -1,5 +1,5 @@
 -- What carrying out the plan of an ordinary run leaves, whatever call fails.
-use Rattle.std.specs.Prelude.{◌≡◌, ◌⊎◌, ◌<◌, ◌^◌, ℕ, Option, Some}
+use Rattle.std.specs.Prelude.{◌≡◌, ◌⊎◌, ◌<◌, ◌^◌, ℕ, Bool, true, Option, Some}
 use Rattle.bisync_device.specs.WorkFolder.{Absent, WorkFolder}
 use Rattle.bisync_transfer.specs.StepTrees.{AreDone}
 use Rattle.bisync_work.specs.declared.bases.Pair.{Pair}
@@ -33,9 +33,10 @@ pub record IsSetBack (limit : ℕ) (before : Base) (prepared : Prepared) (g : Wo
 
 -- # Carrying out
 
--- The base is as before or the new one, as the work folder alone tells it.
-abbrev pub KeepsOrNext : ℕ → Prepared → WorkFolder → WorkFolder → Type 0
-KeepsOrNext limit prepared f g = (base : Option Base) → IsBase limit f base → IsBase limit g base ⊎ IsBase limit g (Some (next_base prepared))
+-- The base is as before or, where it may be, the new one, as the work folder alone tells it.
+abbrev pub KeepsOrNext : ℕ → Prepared → Bool → WorkFolder → WorkFolder → Type 0
+KeepsOrNext limit prepared may f g =
+    (base : Option Base) → IsBase limit f base → IsBase limit g base ⊎ ((may ≡ true) × IsBase limit g (Some (next_base prepared)))
 
 -- The base is as before; or it is the new one, and all steps are done.
 abbrev pub KeepsOrSwitches : ℕ → Prepared → WorkFolder → Remotes → WorkFolder → Remotes → Type 0

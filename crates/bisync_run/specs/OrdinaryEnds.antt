@@ -2,6 +2,7 @@
 use Rattle.std.specs.Prelude.{◌≡◌, ◌≢◌, ◌<◌, ◌≤◌, ◌*◌, ℕ, List, Option, Some, IsSome, true, false, ⊤}
 use Rattle.bisync_tree.specs.Same.{same}
 use Rattle.bisync_tree.specs.declared.entries.Compare.{Compare}
+use Rattle.bisync_listing.specs.ListingText.{AreFields}
 use Rattle.bisync_opts.specs.declared.options.CheckSync.TheVariants.{Always, Only}
 use Rattle.bisync_opts.specs.declared.options.Opts.{Opts}
 use Rattle.bisync_report.specs.declared.ends.End.{End}
@@ -22,7 +23,7 @@ IsOrdinaryEnd opts compare (FiltersChanged now stored) = IsSome opts.filters × 
 IsOrdinaryEnd opts compare (BadListing name line) = ⊤
 IsOrdinaryEnd opts compare (NeedResync NoBase) = ⊤
 IsOrdinaryEnd opts compare (NeedResync NotRecovering) = opts.recover ≡ false
-IsOrdinaryEnd opts compare (NeedResync (FieldsChanged stored)) = stored ≢ fields_of opts.compare
+IsOrdinaryEnd opts compare (NeedResync (FieldsChanged stored)) = AreFields stored × (stored ≢ fields_of opts.compare)
 IsOrdinaryEnd opts compare (ListingsDiffer p one two) = (opts.check_sync ≡ Only) × (same compare one two ≡ false)
 IsOrdinaryEnd opts compare (EmptyPrior side) = opts.check_sync ≢ Only
 IsOrdinaryEnd opts compare (RemoteFault side) = opts.check_sync ≢ Only
@@ -52,7 +53,7 @@ IsStartEnd opts digest (FiltersChanged now stored) = (digest ≡ Some now) × (s
 IsStartEnd opts digest (BadListing name line) = ⊤
 IsStartEnd opts digest (NeedResync NoBase) = ⊤
 IsStartEnd opts digest (NeedResync NotRecovering) = opts.recover ≡ false
-IsStartEnd opts digest (NeedResync (FieldsChanged stored)) = stored ≢ fields_of opts.compare
+IsStartEnd opts digest (NeedResync (FieldsChanged stored)) = AreFields stored × (stored ≢ fields_of opts.compare)
 IsStartEnd opts digest end = ⊥
 
 -- the ends of a run that has no plan, where it is no run that only compares its base

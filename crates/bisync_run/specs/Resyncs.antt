@@ -32,8 +32,10 @@ base_of_trees stamp s one two = record {
   two = listing_of s.compare s.passes two;
 }
 
--- Both trees are what the resync is to leave, and the base is made of their listings, with the new stamp of the folder f.
+-- Nothing refused the resync, both trees are what it is to leave, and the base is made of their listings, with the new stamp of
+-- the folder f.
 pub record IsMadeAnew (mode : Prefer) (limits : Limits) (f : WorkFolder) (s : Sides) (g : WorkFolder) (now : Remotes) : Type 0 where
+  pub accepted : HasNoResyncRefusal mode limits f s
   pub trees : SameTrees (trees_in now) (resync_end mode s)
   pub stamp : ℕ
   pub new : IsNewStamp limits.listing f stamp

@@ -1,6 +1,6 @@
 //! A run that holds the lock.
 
-ghost use Rattle.std.specs.Prelude.{◌≡◌, ◌≢◌, ◌++◌, ℕ, List, IsTrue, IfOk, IfErr, OnOk, Some, None, true, false};
+ghost use Rattle.std.specs.Prelude.{◌≡◌, ◌⊎◌, ◌≢◌, ◌++◌, ℕ, List, IsTrue, IsOk, IfOk, IfErr, OnOk, Some, None, true, false};
 ghost use Rattle.bisync_tree.specs.declared.options.Prefer.{Prefer};
 ghost use Rattle.bisync_model.specs.Trees.{by_side};
 ghost use Rattle.bisync_device.specs.Faults.{Rose};
@@ -12,7 +12,7 @@ ghost use Rattle.bisync_run.specs.Beginnings.{AnswersBeginning, IsWellBegun};
 ghost use Rattle.bisync_run.specs.CarryingOut.{AreSetAside, but_carried};
 ghost use Rattle.bisync_run.specs.Counts.{counts, HasCauses};
 ghost use Rattle.bisync_run.specs.EndKinds.{is_good, is_unlocked, may_have_changed, may_tell_plan};
-ghost use Rattle.bisync_run.specs.FolderBases.{LeavesFolderBase, LeavesNextInPlace, Writes};
+ghost use Rattle.bisync_run.specs.FolderBases.{LeavesHeldBase, LeavesNextInPlace, Writes};
 ghost use Rattle.bisync_run.specs.Grounds.{HasGrounds, IsTold};
 ghost use Rattle.bisync_run.specs.HeldResyncs.{end_of, IsGoodEndOf, TellsPlan};
 ghost use Rattle.bisync_run.specs.LockNew.{KeepsLockNew};
@@ -83,13 +83,13 @@ pub fn held<A: Remote, B: Remote, W: Work, C: Clock, S: Sink>(
     ensures compares_two { opts.now.resync ≡ None → opts.now.check_sync ≡ CheckSync.Only → KeepsTree B.tells (B.state two.old) (B.state two.new) }
     ensures compares { opts.now.resync ≡ None → opts.now.check_sync ≡ CheckSync.Only → KeepsFolder W.tells (W.state work.old) (W.state work.new) }
     ensures compares_sink { opts.now.resync ≡ None → opts.now.check_sync ≡ CheckSync.Only → S.state sink.new ≡ S.state sink.old }
-    ensures folder_base { IsTrue W.tells → LeavesFolderBase opts.now limits.now (W.state work.old).folder (by_side (A.state one.old) (B.state two.old)) (W.state work.new).folder }
+    ensures folder_base { IsTrue W.tells → LeavesHeldBase opts.now limits.now (sides_of opts.now.compare entered.now.rules (A.state one.old) (B.state two.old)) entered.now.digest (end_of result) (W.state work.old).folder (W.state work.new).folder }
     ensures folder_next { IsTrue W.tells → Writes opts.now → OnOk result (LeavesNextInPlace opts.now limits.now (W.state work.old).folder (by_side (A.state one.old) (B.state two.old)) (W.state work.new).folder) }
     ensures settled { IsTrue W.tells → IsSettled (W.state work.old).folder → IsSettled (W.state work.new).folder }
     ensures rest { IsTrue W.tells → but_carried (W.state work.new).folder ≡ but_carried (W.state work.old).folder }
     ensures well { IfOk result (λ end. is_good end ≡ true) }
     ensures only { is_unlocked (end_of result) ≡ false }
-    ensures lock_new { IsTrue W.tells → (Rose (W.state work.old).faults (W.state work.new).faults → ⊥) → KeepsLockNew (W.state work.old).folder (W.state work.new).folder }
+    ensures lock_new { IsTrue W.tells → IsOk result ⊎ (Rose (W.state work.old).faults (W.state work.new).faults → ⊥) → KeepsLockNew (W.state work.old).folder (W.state work.new).folder }
     ensures no_digest { IsTrue W.tells → entered.now.digest ≡ None → (W.state work.new).folder.filters_md5 ≡ (W.state work.old).folder.filters_md5 }
     ensures quiet { IsTrue S.tells → (Rose (S.state sink.old).faults (S.state sink.new).faults → ⊥) → may_tell_plan (end_of result) ≡ false → (S.state sink.new).bytes ≡ (S.state sink.old).bytes }
     ensures lines { IsTrue S.tells → (lines : List ℕ) × ((S.state sink.new).bytes ≡ (S.state sink.old).bytes ++ lines) }

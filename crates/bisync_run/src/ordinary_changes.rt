@@ -1,6 +1,6 @@
 //! An ordinary run from its first change on.
 
-ghost use Rattle.std.specs.Prelude.{◌≡◌, ◌<◌, ℕ, IsTrue, IfOk, IfErr, OnOk, None, is_err, length, sum_by};
+ghost use Rattle.std.specs.Prelude.{◌≡◌, ◌⊎◌, ◌<◌, ℕ, IsTrue, IsOk, IfOk, IfErr, OnOk, None, is_err, length, sum_by};
 ghost use Rattle.bisync_tree.specs.Ranges.{IsLongEnough};
 ghost use Rattle.bisync_model.specs.Trees.{by_side};
 ghost use Rattle.bisync_model.specs.Changes.{changes_of};
@@ -12,6 +12,7 @@ ghost use Rattle.bisync_work.specs.Base.{Base, HasBaseIn};
 ghost use Rattle.bisync_work.specs.Moves.{KeepsBase};
 ghost use Rattle.bisync_work.specs.WorkCalls.{AreWorkCalls};
 ghost use Rattle.bisync_run.specs.Counts.{counts, HasCauses};
+ghost use Rattle.bisync_run.specs.EndKinds.{may_have_switched_after};
 ghost use Rattle.bisync_run.specs.LockNew.{KeepsLockNew};
 ghost use Rattle.bisync_run.specs.Ordinary.{but_ordinary};
 ghost use Rattle.bisync_run.specs.OrdinaryChanges.{IsPrepared, IsSetBack, KeepsOrNext, KeepsOrSwitches, IsNextSet, but_listings};
@@ -62,8 +63,8 @@ pub fn carry_out_ordinary<A: Remote, B: Remote, W: Work, C: Clock>(
         → KeepsOrSwitches limit prepared (W.state work.old).folder (by_side (A.state one.old) (B.state two.old)) (W.state work.new).folder (by_side (A.state one.new) (B.state two.new)) }
     ensures settled { IsTrue W.tells → IsSettled (W.state work.old).folder → IsSettled (W.state work.new).folder }
     ensures rest { IsTrue W.tells → but_ordinary (W.state work.new).folder ≡ but_ordinary (W.state work.old).folder }
-    ensures lock_new { IsTrue W.tells → (Rose (W.state work.old).faults (W.state work.new).faults → ⊥) → KeepsLockNew (W.state work.old).folder (W.state work.new).folder }
-    ensures folder_base { IsTrue W.tells → (limit : ℕ) (before : Base) → IsPrepared limit (W.state work.old).folder pair before prepared → KeepsOrNext limit prepared (W.state work.old).folder (W.state work.new).folder }
+    ensures lock_new { IsTrue W.tells → IsOk result ⊎ (Rose (W.state work.old).faults (W.state work.new).faults → ⊥) → KeepsLockNew (W.state work.old).folder (W.state work.new).folder }
+    ensures folder_base { IsTrue W.tells → (limit : ℕ) (before : Base) → IsPrepared limit (W.state work.old).folder pair before prepared → KeepsOrNext limit prepared (may_have_switched_after result) (W.state work.old).folder (W.state work.new).folder }
     ensures next_set { IsTrue W.tells → (limit : ℕ) (before : Base) → IsPrepared limit (W.state work.old).folder pair before prepared → OnOk result (IsNextSet limit before prepared (W.state work.new).folder) }
     ensures done { IsTrue A.tells → IsTrue B.tells → OnOk result (AreDone prepared.plan.steps.items (by_side (A.state one.old) (B.state two.old)) (by_side (A.state one.new) (B.state two.new))) }
     ensures part { IsTrue A.tells → IsTrue B.tells → IsPartDone prepared.plan.steps.items (by_side (A.state one.old) (B.state two.old)) (by_side (A.state one.new) (B.state two.new)) }

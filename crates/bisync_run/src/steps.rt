@@ -1,6 +1,6 @@
 //! The steps of a plan, in order, while the lock is kept.
 
-ghost use Rattle.std.specs.Prelude.{◌≡◌, ◌<◌, IsTrue, IfOk, IfErr, OnOk, None, is_err, length};
+ghost use Rattle.std.specs.Prelude.{◌≡◌, ◌⊎◌, ◌<◌, IsTrue, IsOk, IfOk, IfErr, OnOk, None, is_err, length};
 ghost use Rattle.std.specs.List.{sum_by};
 ghost use Rattle.bisync_tree.specs.Ranges.{IsLongEnough};
 ghost use Rattle.bisync_model.specs.Trees.{by_side};
@@ -58,7 +58,7 @@ pub fn do_steps<A: Remote, B: Remote, W: Work, C: Clock>(
     ensures read { IfErr result MovedIsRead }
     ensures told { IfErr result (TellsStep steps.items) }
     ensures lock { IsTrue W.tells → ChangesLock (W.state work.old).folder (W.state work.new).folder }
-    ensures lock_new { IsTrue W.tells → (Rose (W.state work.old).faults (W.state work.new).faults → ⊥) → KeepsLockNew (W.state work.old).folder (W.state work.new).folder }
+    ensures lock_new { IsTrue W.tells → IsOk result ⊎ (Rose (W.state work.old).faults (W.state work.new).faults → ⊥) → KeepsLockNew (W.state work.old).folder (W.state work.new).folder }
     ensures windows { ((A.state one.new).window ≡ (A.state one.old).window) × ((B.state two.new).window ≡ (B.state two.old).window) }
     ensures moment { IsTrue C.tells → C.moment clock.new ≡ C.moment clock.old }
     ensures left1 { (A.state one.old).left ≡ None → (A.state one.new).left ≡ None }

@@ -162,7 +162,7 @@ returns-clause-resync_in_sync g c = of_run _ _ _ _ c.in-Ok-Run.ensures.read.ok c
 
 pub returns-in-Err-OutOfMemory-clause-folder_images : goal.returns-in-Err-OutOfMemory-clause-folder_images
 returns-in-Err-OutOfMemory-clause-folder_images g c =
-    folder_images_same (task_in c.args.words.now) _ _ (g.W.Work.state c.args.work.now).folder (by_side (g.A.Remote.state c.args.one.now) (g.B.Remote.state c.args.two.now))
+    folder_images_same (task_in c.args.words.now) _ _ (g.W.Work.state c.args.work.now).folder (by_side (g.A.Remote.state c.args.one.now) (g.B.Remote.state c.args.two.now)) _
 
 pub returns-clause-folder_base : goal.returns-clause-folder_base
 returns-clause-folder_base g c = of_run _ _ _ _ c.in-Ok-Run.ensures.read.ok c.in-Ok-Run.field-0-is c.run-end.ensures.folder_base

@@ -62,7 +62,8 @@ returns-in-Err-clause-freed g c work freed =
     absurd (unlocked_not_after_good c.args.opts.now.filters c.in-Err.end c.in-Err.ensures.kind (freed_is_after_good c.in-Err.end freed))
 
 pub returns-in-Err-clause-lock_new : goal.returns-in-Err-clause-lock_new
-returns-in-Err-clause-lock_new g c work never =
+returns-in-Err-clause-lock_new g c work (inl good) = absurd (unlocked_not_after_good c.args.opts.now.filters c.in-Err.end c.in-Err.ensures.kind good)
+returns-in-Err-clause-lock_new g c work (inr never) =
     lock_new_same (g.W.Work.state c.args.work.now).folder (g.W.Work.state c.enter.new.work).folder
     (ap (λ (w : WorkFolder). w.lock_new) (c.in-Err.ensures.kept work (λ is. never
     (subst (λ (e : End). Stops (counts 0 0 (g.W.Work.state c.args.work.now).faults 0) (counts 0 0 (g.W.Work.state c.enter.new.work).faults 0) e) is c.in-Err.ensures.causes.fault))))
@@ -177,12 +178,8 @@ returns-clause-only_fallen g c work early =
 
 pub returns-clause-fallen : goal.returns-clause-fallen
 returns-clause-fallen g c work fell never =
-    let a = (g.W.Work.state c.args.work.now).faults in
-    let b = (g.W.Work.state c.enter.new.work).faults in
-    let m = (g.W.Work.state c.held-ended.new.work).faults in
-    let z = (g.W.Work.state c.close.new.work).faults in
     c.close.ensures.fallen work (fell_closed c.args.opts.now.resilient c.args.opts.now.dry_run c.held-ended.result c.close.result c.held-ended.ensures.well c.close.ensures.end fell)
-    (no_rise_last a b m z never c.in-Ok.ensures.causes.later.work c.held-ended.ensures.causes.later.work)
+    (no_rise_last _ (g.W.Work.state c.enter.new.work).faults (g.W.Work.state c.held-ended.new.work).faults _ never c.in-Ok.ensures.causes.later.work c.held-ended.ensures.causes.later.work)
 
 pub returns-clause-freed : goal.returns-clause-freed
 returns-clause-freed g c work freed =
@@ -190,21 +187,20 @@ returns-clause-freed g c work freed =
     c.close.ensures.good work was.0 was.1
 
 pub returns-clause-lock_new : goal.returns-clause-lock_new
-returns-clause-lock_new g c work never =
+returns-clause-lock_new g c work sure =
     let a = (g.W.Work.state c.args.work.now).faults in
     let b = (g.W.Work.state c.enter.new.work).faults in
     let m = (g.W.Work.state c.held-ended.new.work).faults in
     let z = (g.W.Work.state c.close.new.work).faults in
-    lock_new_twice (lock_new_twice (c.in-Ok.ensures.lock_new work) (c.held-ended.ensures.lock_new work (no_rise_mid a b m z never c.in-Ok.ensures.causes.later.work c.close.ensures.later)))
+    let still = ⊎_elim (λ good. inl (after_good_was_ok _ _ c.held-ended.result c.close.result c.held-ended.ensures.causes.fault c.close.ensures.end good))
+    (λ never. inr (no_rise_mid a b m z never c.in-Ok.ensures.causes.later.work c.close.ensures.later)) sure in
+    lock_new_twice (lock_new_twice (c.in-Ok.ensures.lock_new work) (c.held-ended.ensures.lock_new work still))
     (lock_new_closed (g.W.Work.state c.held-ended.new.work).folder (g.W.Work.state c.close.new.work).folder (c.close.ensures.closes work))
 
 pub returns-clause-no_digest : goal.returns-clause-no_digest
 returns-clause-no_digest g c work none =
-    let f = (g.W.Work.state c.args.work.now).folder in
-    let f2 = (g.W.Work.state c.enter.new.work).folder in
-    let mid = (g.W.Work.state c.held-ended.new.work).folder in
-    let h = (g.W.Work.state c.close.new.work).folder in
-    no_digest_closed c.args.opts.now.filters c.in-Ok.entered.rules c.in-Ok.entered.digest f f2 mid h (c.in-Ok.ensures.rules work) none (c.in-Ok.ensures.others work) (c.held-ended.ensures.no_digest work) (c.close.ensures.closes work)
+    no_digest_closed c.args.opts.now.filters c.in-Ok.entered.rules c.in-Ok.entered.digest (g.W.Work.state c.args.work.now).folder (g.W.Work.state c.enter.new.work).folder (g.W.Work.state c.held-ended.new.work).folder
+    (g.W.Work.state c.close.new.work).folder (c.in-Ok.ensures.rules work) none (c.in-Ok.ensures.others work) (c.held-ended.ensures.no_digest work) (c.close.ensures.closes work)
 
 pub returns-clause-entry : goal.returns-clause-entry
 returns-clause-entry g c work un = absurd (locked_closed c.held-ended.result c.close.result c.close.ensures.end c.held-ended.ensures.only un)
@@ -261,7 +257,7 @@ pub returns-in-Err-clause-run_trees : goal.returns-in-Err-clause-run_trees
 returns-in-Err-clause-run_trees g c none one two work = inl (untouched_same (by_side (g.A.Remote.state c.args.one.now) (g.B.Remote.state c.args.two.now)))
 
 pub returns-in-Err-clause-run_rest : goal.returns-in-Err-clause-run_rest
-returns-in-Err-clause-run_rest g c none work = rest_locked (g.W.Work.state c.args.work.now).folder (g.W.Work.state c.enter.new.work).folder (c.in-Err.ensures.others work)
+returns-in-Err-clause-run_rest g c none work = rest_locked _ (g.W.Work.state c.args.work.now).folder (g.W.Work.state c.enter.new.work).folder (c.in-Err.ensures.others work)
 
 pub returns-in-Err-clause-only_run : goal.returns-in-Err-clause-only_run
 returns-in-Err-clause-only_run g c none = unlocked_is_ordinary c.args.opts.now _ c.in-Err.end c.in-Err.ensures.kind
@@ -349,7 +345,9 @@ returns-clause-run_trees g c none one two work =
     (c.held-ended.ensures.run_trees none one two work)
 
 pub returns-clause-run_rest : goal.returns-clause-run_rest
-returns-clause-run_rest g c none work = rest_closed _ _ _ _ (c.in-Ok.ensures.others work) (c.held-ended.ensures.run_rest none work) (c.close.ensures.closes work)
+returns-clause-run_rest g c none work =
+    rest_closed _ _ _ _ _ (c.in-Ok.ensures.others work) (c.held-ended.ensures.run_rest none work) (c.close.ensures.closes work)
+    (λ stays. c.close.ensures.kept work (falls_closed c.args.opts.now.resilient c.args.opts.now.dry_run c.held-ended.result c.close.result c.close.ensures.end stays))
 
 pub returns-clause-only_run : goal.returns-clause-only_run
 returns-clause-only_run g c none = ordinary_closed c.args.opts.now _ c.held-ended.result c.close.result c.close.ensures.end (c.held-ended.ensures.run_kind none)
@@ -429,16 +427,18 @@ returns-clause-begun g c none work good =
 
 pub returns-in-Err-clause-folder_base : goal.returns-in-Err-clause-folder_base
 returns-in-Err-clause-folder_base g c work =
-    folder_base_unlocked c.args.opts.now c.args.limits.now (by_side (g.A.Remote.state c.args.one.now) (g.B.Remote.state c.args.two.now)) (g.W.Work.state c.args.work.now).folder (g.W.Work.state c.enter.new.work).folder (c.in-Err.ensures.others work)
+    folder_base_unlocked c.args.opts.now c.args.limits.now (by_side (g.A.Remote.state c.args.one.now) (g.B.Remote.state c.args.two.now)) c.in-Err.end (g.W.Work.state c.args.work.now).folder (g.W.Work.state c.enter.new.work).folder (c.in-Err.ensures.others work)
 
 pub returns-in-Err-clause-folder_next : goal.returns-in-Err-clause-folder_next
 returns-in-Err-clause-folder_next g c work writes good = absurd (unlocked_not_after_good c.args.opts.now.filters c.in-Err.end c.in-Err.ensures.kind good)
 
 pub returns-clause-folder_base : goal.returns-clause-folder_base
 returns-clause-folder_base g c work =
-    folder_base_closed c.args.opts.now c.args.limits.now (by_side (g.A.Remote.state c.args.one.now) (g.B.Remote.state c.args.two.now)) (g.W.Work.state c.args.work.now).folder (g.W.Work.state c.enter.new.work).folder
-    (g.W.Work.state c.held-ended.new.work).folder (g.W.Work.state c.close.new.work).folder (c.in-Ok.ensures.others work) (c.held-ended.ensures.folder_base work) c.held-ended.result
-    (c.close.ensures.closes work) (c.close.ensures.kept work)
+    let f = (g.W.Work.state c.args.work.now).folder in
+    let start = by_side (g.A.Remote.state c.args.one.now) (g.B.Remote.state c.args.two.now) in
+    let m : Matter c.args.opts.now f start = record { rules = c.in-Ok.entered.rules; digest = c.in-Ok.entered.digest; are = c.in-Ok.ensures.rules work } in
+    folder_base_closed c.args.opts.now c.args.limits.now start f (g.W.Work.state c.enter.new.work).folder (g.W.Work.state c.held-ended.new.work).folder (g.W.Work.state c.close.new.work).folder
+    (c.in-Ok.ensures.others work) m c.held-ended.result c.close.result c.close.ensures.end (c.held-ended.ensures.folder_base work) (c.close.ensures.closes work) (c.close.ensures.kept work)
 
 pub returns-clause-folder_next : goal.returns-clause-folder_next
 returns-clause-folder_next g c work writes good =

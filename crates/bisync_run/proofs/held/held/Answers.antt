@@ -1,7 +1,7 @@
 use Rattle.std.proofs.Common.{◌∙◌, sym, subst, OnOk}
 use Rattle.bisync_tree.specs.declared.options.Prefer.{Prefer}
 use Rattle.bisync_model.specs.Trees.{by_side}
-use Rattle.bisync_run.specs.HeldResyncs.{TellsPlan}
+use Rattle.bisync_run.specs.HeldResyncs.{TellsPlan, end_of}
 use Rattle.bisync_run.specs.Resyncs.{IsResynced, LeavesBase, LeavesTrees}
 use Rattle.bisync_run.specs.Sides.{sides_of}
 use Rattle.bisync_run.proofs.FolderBases.{map_ok, ordinary_leaves, resync_in_place, resync_leaves}
@@ -43,16 +43,20 @@ returns-in-Some-clause-report g c mode is one two sink =
 -- # What the work folder alone tells
 
 pub returns-in-Some-clause-folder_base : goal.returns-in-Some-clause-folder_base
-returns-in-Some-clause-folder_base g c work =
-    resync_leaves c.args.opts.now c.args.limits.now (by_side (g.A.Remote.state c.args.one.now) (g.B.Remote.state c.args.two.now)) (g.W.Work.state c.args.work.now).folder (g.W.Work.state c.resync.new.work).folder c.in-Some.mode c.in-Some.is (λ dry. c.resync.ensures.dry dry work) (c.resync.ensures.folder_base work)
+returns-in-Some-clause-folder_base g c work base is =
+    let s = sides_of c.args.opts.now.compare c.args.entered.now.rules (g.A.Remote.state c.args.one.now) (g.B.Remote.state c.args.two.now) in
+    resync_leaves c.args.opts.now c.args.limits.now s c.args.entered.now.digest (end_of c.resync.result) (g.W.Work.state c.args.work.now).folder (g.W.Work.state c.resync.new.work).folder
+    (λ dry. c.resync.ensures.dry dry work) base is c.in-Some.mode c.in-Some.is (c.resync.ensures.folder_base work base is)
 
 pub returns-in-Some-clause-folder_next : goal.returns-in-Some-clause-folder_next
 returns-in-Some-clause-folder_next g c work writes =
     map_ok c.resync.result (resync_in_place c.args.opts.now c.args.limits.now (by_side (g.A.Remote.state c.args.one.now) (g.B.Remote.state c.args.two.now)) (g.W.Work.state c.args.work.now).folder (g.W.Work.state c.resync.new.work).folder c.in-Some.mode c.in-Some.is) (c.resync.ensures.folder_next work writes.0)
 
 pub returns-in-None-clause-folder_base : goal.returns-in-None-clause-folder_base
-returns-in-None-clause-folder_base g c work =
-    ordinary_leaves c.args.opts.now c.args.limits.now (by_side (g.A.Remote.state c.args.one.now) (g.B.Remote.state c.args.two.now)) (g.W.Work.state c.args.work.now).folder (g.W.Work.state c.ordinary.new.work).folder (c.ordinary.ensures.folder_base work)
+returns-in-None-clause-folder_base g c work base is =
+    let s = sides_of c.args.opts.now.compare c.args.entered.now.rules (g.A.Remote.state c.args.one.now) (g.B.Remote.state c.args.two.now) in
+    ordinary_leaves c.args.opts.now c.args.limits.now s c.args.entered.now.digest (end_of c.ordinary.result) (g.W.Work.state c.args.work.now).folder (g.W.Work.state c.ordinary.new.work).folder
+    (λ dry. c.ordinary.ensures.dry dry work) base is (λ only. c.ordinary.ensures.compares only work) (c.ordinary.ensures.folder_base work base is)
 
 pub returns-in-None-clause-folder_next : goal.returns-in-None-clause-folder_next
 returns-in-None-clause-folder_next g c work writes =

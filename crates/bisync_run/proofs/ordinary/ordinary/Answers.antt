@@ -1,13 +1,14 @@
 use Rattle.std.proofs.Common.{◌<◌, ◌^◌, ◌∙◌, refl, sym, subst, inl, inr, arith}
-use Rattle.bisync_device.specs.WorkFolder.{IsSettled}
+use Rattle.bisync_device.specs.WorkFolder.{IsSettled, WorkFolder}
 use Rattle.bisync_model.specs.Trees.{by_side}
 use Rattle.bisync_report.specs.declared.ends.End.TheVariants.{Done, DryRun, OutOfMemory}
 use Rattle.bisync_run.specs.Counts.{counts}
+use Rattle.bisync_run.specs.LockNew.{KeepsLockNew}
 use Rattle.bisync_run.specs.Sides.{compare_in, sides_of}
 use Rattle.bisync_run.proofs.BeginningLaws.{begun_by, compared_begins, compared_begun, look_begins, start_begins, step_begins}
 use Rattle.bisync_run.proofs.CauseLaws.{fails}
 use Rattle.bisync_run.proofs.DoneSteps.{looked_told}
-use Rattle.bisync_run.proofs.EndCases.{step_may_change, told_device}
+use Rattle.bisync_run.proofs.EndCases.{false_true, step_may_change, told_device}
 use Rattle.bisync_run.proofs.FolderBases.{kept_or_next, next_in_place, ready_to}
 use Rattle.bisync_run.proofs.HeldLaws.{untouched, same_windows, are_within}
 use Rattle.bisync_run.proofs.OrdinaryCauses.{done_same, lock_new_held, since, stopped, sunk, told_same, unsunk, well, work_same}
@@ -197,9 +198,8 @@ returns-in-Ok-carry_out_ordinary-clause-accepted g c one two work =
     inl look.course
 
 pub returns-in-Ok-carry_out_ordinary-clause-lock_new : goal.returns-in-Ok-carry_out_ordinary-clause-lock_new
-returns-in-Ok-carry_out_ordinary-clause-lock_new g c work never =
-    lock_new_held (g.W.Work.state c.args.work.now).folder (g.W.Work.state c.start.new.work).folder (g.W.Work.state c.carry_out_ordinary.new.work).folder (g.W.Work.state c.args.work.now).faults (g.W.Work.state c.start.new.work).faults (g.W.Work.state c.carry_out_ordinary.new.work).faults
-    (c.in-Ok.ensures.folder work) (work_same (g.W.Work.state c.args.work.now).faults (g.W.Work.state c.start.new.work).faults c.in-Ok.started c.in-Ok.ensures.causes) (c.in-Ok-carry_out_ordinary.ensures.lock_new work) never
+returns-in-Ok-carry_out_ordinary-clause-lock_new g c work sure =
+    subst (λ (f : WorkFolder). KeepsLockNew f (g.W.Work.state c.carry_out_ordinary.new.work).folder) (c.in-Ok.ensures.folder work) (c.in-Ok-carry_out_ordinary.ensures.lock_new work (inl refl))
 
 pub returns-in-Ok-carry_out_ordinary-clause-report : goal.returns-in-Ok-carry_out_ordinary-clause-report
 returns-in-Ok-carry_out_ordinary-clause-report g c one two work sink =
@@ -219,10 +219,8 @@ returns-in-Ok-carry_out_ordinary-clause-causes g c =
     let a2 = (g.A.Remote.state c.look_ordinary.new.one).faults in
     let b2 = (g.B.Remote.state c.look_ordinary.new.two).faults in
     let w2 = (g.W.Work.state c.start.new.work).faults in
-    let started = (c.in-Ok.ensures.causes a b s).good refl in
-    let looked = (c.in-Ok-look_ordinary.ensures.causes w2 s).good refl in
     let s2 = (g.S.Sink.state c.plan_lines.new.sink).faults in
-    let told = told_same a b w s a2 b2 w2 s2 started looked (c.in-Ok-plan_lines.ensures.cause.kept refl) in
+    let told = told_same a b w s a2 b2 w2 s2 ((c.in-Ok.ensures.causes a b s).good refl) ((c.in-Ok-look_ordinary.ensures.causes w2 s).good refl) (c.in-Ok-plan_lines.ensures.cause.kept refl) in
     let a3 = (g.A.Remote.state c.carry_out_ordinary.new.one).faults in
     let b3 = (g.B.Remote.state c.carry_out_ordinary.new.two).faults in
     let w3 = (g.W.Work.state c.carry_out_ordinary.new.work).faults in
@@ -274,9 +272,10 @@ returns-clause-answers g c one two work =
     (told_device (by_side g.A.Remote.tells g.B.Remote.tells) one two c.in-Err-carry_out_ordinary.end c.in-Err-carry_out_ordinary.ensures.end found)
 
 pub returns-clause-lock_new : goal.returns-clause-lock_new
-returns-clause-lock_new g c work never =
+returns-clause-lock_new g c work (inl ok) = false_true ok
+returns-clause-lock_new g c work (inr never) =
     lock_new_held (g.W.Work.state c.args.work.now).folder (g.W.Work.state c.start.new.work).folder (g.W.Work.state c.carry_out_ordinary.new.work).folder (g.W.Work.state c.args.work.now).faults (g.W.Work.state c.start.new.work).faults (g.W.Work.state c.carry_out_ordinary.new.work).faults
-    (c.in-Ok.ensures.folder work) (work_same (g.W.Work.state c.args.work.now).faults (g.W.Work.state c.start.new.work).faults c.in-Ok.started c.in-Ok.ensures.causes) (c.in-Err-carry_out_ordinary.ensures.lock_new work) never
+    (c.in-Ok.ensures.folder work) (work_same (g.W.Work.state c.args.work.now).faults (g.W.Work.state c.start.new.work).faults c.in-Ok.started c.in-Ok.ensures.causes) (λ still. c.in-Err-carry_out_ordinary.ensures.lock_new work (inr still)) never
 
 pub returns-clause-report : goal.returns-clause-report
 returns-clause-report g c one two work sink =
@@ -308,10 +307,8 @@ returns-clause-causes g c =
     let a2 = (g.A.Remote.state c.look_ordinary.new.one).faults in
     let b2 = (g.B.Remote.state c.look_ordinary.new.two).faults in
     let w2 = (g.W.Work.state c.start.new.work).faults in
-    let started = (c.in-Ok.ensures.causes a b s).good refl in
-    let looked = (c.in-Ok-look_ordinary.ensures.causes w2 s).good refl in
     let s2 = (g.S.Sink.state c.plan_lines.new.sink).faults in
-    let told = told_same a b w s a2 b2 w2 s2 started looked (c.in-Ok-plan_lines.ensures.cause.kept refl) in
+    let told = told_same a b w s a2 b2 w2 s2 ((c.in-Ok.ensures.causes a b s).good refl) ((c.in-Ok-look_ordinary.ensures.causes w2 s).good refl) (c.in-Ok-plan_lines.ensures.cause.kept refl) in
     let a3 = (g.A.Remote.state c.carry_out_ordinary.new.one).faults in
     let b3 = (g.B.Remote.state c.carry_out_ordinary.new.two).faults in
     let w3 = (g.W.Work.state c.carry_out_ordinary.new.work).faults in
@@ -417,12 +414,14 @@ pub returns-in-Ok-carry_out_ordinary-clause-folder_base : goal.returns-in-Ok-car
 returns-in-Ok-carry_out_ordinary-clause-folder_base g c work =
     let f = (g.W.Work.state c.args.work.now).folder in
     let f2 = (g.W.Work.state c.start.new.work).folder in
+    let s = sides_of c.args.opts.now.compare c.args.entered.now.rules (g.A.Remote.state c.args.one.now) (g.B.Remote.state c.args.two.now) in
     let start = c.in-Ok.ensures.starts work in
-    let small : c.args.limits.now.listing < 2 ^ 64 = omega arith in
-    let fits = are_within c.args.limits.now (prepared_of c.in-Ok.started.stamp c.in-Ok-look_ordinary.look) c.in-Ok-look_ordinary.ensures.within1 c.in-Ok-look_ordinary.ensures.within2 in
-    let ready = ready_to c.args.opts.now c.args.limits.now _ c.args.entered.now.digest f f2 (c.in-Ok.ensures.folder work) c.in-Ok.started start c.in-Ok-look_ordinary.look c.in-Ok-look_ordinary.ensures.compare small fits in
+    let more = not_only c.args.opts.now.check_sync (sym c.is_only.ensures ∙ c.if-is_only.false) in
+    let begun = begun_by c.args.opts.now c.args.limits.now f s c.args.entered.now.digest c.in-Ok.started start more c.in-Ok-look_ordinary.ensures.had_prior in
+    let ready = ready_to c.args.opts.now c.args.limits.now _ c.args.entered.now.digest f f2 (c.in-Ok.ensures.folder work) c.in-Ok.started start c.in-Ok-look_ordinary.look c.in-Ok-look_ordinary.ensures.compare (omega arith)
+    (are_within c.args.limits.now (prepared_of c.in-Ok.started.stamp c.in-Ok-look_ordinary.look) c.in-Ok-look_ordinary.ensures.within1 c.in-Ok-look_ordinary.ensures.within2) in
     kept_or_next c.args.opts.now c.args.limits.now _ c.args.entered.now.digest f f2 (c.in-Ok.ensures.folder work) c.in-Ok.started start c.in-Ok-look_ordinary.look c.in-Ok-look_ordinary.ensures.compare
-    (g.W.Work.state c.carry_out_ordinary.new.work).folder (c.in-Ok-carry_out_ordinary.ensures.folder_base work c.args.limits.now.listing start.base ready)
+    (g.W.Work.state c.carry_out_ordinary.new.work).folder _ s begun (c.in-Ok-carry_out_ordinary.ensures.folder_base work c.args.limits.now.listing start.base ready)
 
 pub returns-in-Ok-carry_out_ordinary-clause-folder_next : goal.returns-in-Ok-carry_out_ordinary-clause-folder_next
 returns-in-Ok-carry_out_ordinary-clause-folder_next g c work dry more =
@@ -439,9 +438,11 @@ pub returns-clause-folder_base : goal.returns-clause-folder_base
 returns-clause-folder_base g c work =
     let f = (g.W.Work.state c.args.work.now).folder in
     let f2 = (g.W.Work.state c.start.new.work).folder in
+    let s = sides_of c.args.opts.now.compare c.args.entered.now.rules (g.A.Remote.state c.args.one.now) (g.B.Remote.state c.args.two.now) in
     let start = c.in-Ok.ensures.starts work in
-    let small : c.args.limits.now.listing < 2 ^ 64 = omega arith in
-    let fits = are_within c.args.limits.now (prepared_of c.in-Ok.started.stamp c.in-Ok-look_ordinary.look) c.in-Ok-look_ordinary.ensures.within1 c.in-Ok-look_ordinary.ensures.within2 in
-    let ready = ready_to c.args.opts.now c.args.limits.now _ c.args.entered.now.digest f f2 (c.in-Ok.ensures.folder work) c.in-Ok.started start c.in-Ok-look_ordinary.look c.in-Ok-look_ordinary.ensures.compare small fits in
+    let more = not_only c.args.opts.now.check_sync (sym c.is_only.ensures ∙ c.if-is_only.false) in
+    let begun = begun_by c.args.opts.now c.args.limits.now f s c.args.entered.now.digest c.in-Ok.started start more c.in-Ok-look_ordinary.ensures.had_prior in
+    let ready = ready_to c.args.opts.now c.args.limits.now _ c.args.entered.now.digest f f2 (c.in-Ok.ensures.folder work) c.in-Ok.started start c.in-Ok-look_ordinary.look c.in-Ok-look_ordinary.ensures.compare (omega arith)
+    (are_within c.args.limits.now (prepared_of c.in-Ok.started.stamp c.in-Ok-look_ordinary.look) c.in-Ok-look_ordinary.ensures.within1 c.in-Ok-look_ordinary.ensures.within2) in
     kept_or_next c.args.opts.now c.args.limits.now _ c.args.entered.now.digest f f2 (c.in-Ok.ensures.folder work) c.in-Ok.started start c.in-Ok-look_ordinary.look c.in-Ok-look_ordinary.ensures.compare
-    (g.W.Work.state c.carry_out_ordinary.new.work).folder (c.in-Err-carry_out_ordinary.ensures.folder_base work c.args.limits.now.listing start.base ready)
+    (g.W.Work.state c.carry_out_ordinary.new.work).folder _ s begun (c.in-Err-carry_out_ordinary.ensures.folder_base work c.args.limits.now.listing start.base ready)

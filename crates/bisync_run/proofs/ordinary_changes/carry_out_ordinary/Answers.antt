@@ -1,4 +1,4 @@
-use Rattle.std.proofs.Common.{inl, inr, ⊎_elim}
+use Rattle.std.proofs.Common.{inl, inr, refl, ⊎_elim}
 use Rattle.bisync_run.proofs.LockedFolders.{base_past}
 use Rattle.bisync_run.proofs.NextSet.{keeps_or_next, settled_after}
 use Rattle.bisync_run.proofs.ordinary_changes.carry_out_ordinary.Goals as goal
@@ -43,12 +43,14 @@ returns-in-Err-do_steps-clause-folder_base g c work limit before is base has =
 
 pub returns-in-Ok-switch-clause-folder_base : goal.returns-in-Ok-switch-clause-folder_base
 returns-in-Ok-switch-clause-folder_base g c work limit before is base has =
-    keeps_or_next limit (g.W.Work.state c.args.work.now).folder (g.W.Work.state c.write_ordinary.new.work).folder (g.W.Work.state c.do_steps.new.work).folder
+    ⊎_elim inl (λ next. inr (refl, next))
+    (keeps_or_next limit (g.W.Work.state c.args.work.now).folder (g.W.Work.state c.write_ordinary.new.work).folder (g.W.Work.state c.do_steps.new.work).folder
     (g.W.Work.state c.switch.new.work).folder c.args.pair before c.args.prepared is (c.write_ordinary.ensures.keeps work limit before is.is)
-    (c.in-Ok.ensures.set_back work limit before is) (c.do_steps.ensures.lock work) (c.switch.ensures.switches work) base has
+    (c.in-Ok.ensures.set_back work limit before is) (c.do_steps.ensures.lock work) (c.switch.ensures.switches work) base has)
 
 pub returns-clause-folder_base : goal.returns-clause-folder_base
 returns-clause-folder_base g c work limit before is base has =
-    keeps_or_next limit (g.W.Work.state c.args.work.now).folder (g.W.Work.state c.write_ordinary.new.work).folder (g.W.Work.state c.do_steps.new.work).folder
+    ⊎_elim inl (λ next. inr (refl, next))
+    (keeps_or_next limit (g.W.Work.state c.args.work.now).folder (g.W.Work.state c.write_ordinary.new.work).folder (g.W.Work.state c.do_steps.new.work).folder
     (g.W.Work.state c.switch.new.work).folder c.args.pair before c.args.prepared is (c.write_ordinary.ensures.keeps work limit before is.is)
-    (c.in-Ok.ensures.set_back work limit before is) (c.do_steps.ensures.lock work) (c.switch.ensures.switches work) base has
+    (c.in-Ok.ensures.set_back work limit before is) (c.do_steps.ensures.lock work) (c.switch.ensures.switches work) base has)

@@ -1,4 +1,4 @@
-use Rattle.std.proofs.Common.{inl, inr, ⊎_elim}
+use Rattle.std.proofs.Common.{inl, inr, refl, ⊎_elim}
 use Rattle.bisync_run.specs.ResyncWriting.{next_base}
 use Rattle.bisync_run.proofs.CarriedOut.{none_or_next, carried_out}
 use Rattle.bisync_run.proofs.LockedFolders.{ready_past}
@@ -31,10 +31,12 @@ returns-clause-base g c one two work limit small fits base is =
 
 pub returns-in-Ok-switch-clause-folder_base : goal.returns-in-Ok-switch-clause-folder_base
 returns-in-Ok-switch-clause-folder_base g c work limit small fits base is =
-    inr (none_or_next limit (g.W.Work.state c.write_resync.new.work).folder (g.W.Work.state c.do_steps.new.work).folder (g.W.Work.state c.switch.new.work).folder
-    (next_base c.args.prepared) small (c.in-Ok.ensures.no_base work limit) (c.in-Ok.ensures.ready work limit fits.one fits.two) (c.in-Ok-do_steps.ensures.lock work) (c.switch.ensures.switches work))
+    inr (⊎_elim inl (λ next. inr (refl, next))
+    (none_or_next limit (g.W.Work.state c.write_resync.new.work).folder (g.W.Work.state c.do_steps.new.work).folder (g.W.Work.state c.switch.new.work).folder
+    (next_base c.args.prepared) small (c.in-Ok.ensures.no_base work limit) (c.in-Ok.ensures.ready work limit fits.one fits.two) (c.in-Ok-do_steps.ensures.lock work) (c.switch.ensures.switches work)))
 
 pub returns-clause-folder_base : goal.returns-clause-folder_base
 returns-clause-folder_base g c work limit small fits base is =
-    inr (none_or_next limit (g.W.Work.state c.write_resync.new.work).folder (g.W.Work.state c.do_steps.new.work).folder (g.W.Work.state c.switch.new.work).folder
-    (next_base c.args.prepared) small (c.in-Ok.ensures.no_base work limit) (c.in-Ok.ensures.ready work limit fits.one fits.two) (c.in-Ok-do_steps.ensures.lock work) (c.switch.ensures.switches work))
+    inr (⊎_elim inl (λ next. inr (refl, next))
+    (none_or_next limit (g.W.Work.state c.write_resync.new.work).folder (g.W.Work.state c.do_steps.new.work).folder (g.W.Work.state c.switch.new.work).folder
+    (next_base c.args.prepared) small (c.in-Ok.ensures.no_base work limit) (c.in-Ok.ensures.ready work limit fits.one fits.two) (c.in-Ok-do_steps.ensures.lock work) (c.switch.ensures.switches work)))

@@ -50,7 +50,7 @@ returns-in-Ok-carry_out-clause-base g c one two work =
     let fits = are_within c.args.limits.now c.in-Ok.prepared c.in-Ok.ensures.within1 c.in-Ok.ensures.within2 in
     base_held c.args.mode c.args.limits.now c.args.opts.now.compare c.args.entered.now.rules a b a2 b2 f f2 c.in-Ok.prepared (c.in-Ok.ensures.plan one two) looked windows (c.in-Ok.ensures.folder work)
     c.in-Ok.ensures.compare (c.in-Ok.ensures.new_stamp work) (g.W.Work.state c.carry_out.new.work).folder
-    (by_side (g.A.Remote.state c.carry_out.new.one) (g.B.Remote.state c.carry_out.new.two)) (c.in-Ok-carry_out.ensures.base one two work c.args.limits.now.listing small fits)
+    (by_side (g.A.Remote.state c.carry_out.new.one) (g.B.Remote.state c.carry_out.new.two)) (c.in-Ok.ensures.accepted one two work) (c.in-Ok-carry_out.ensures.base one two work c.args.limits.now.listing small fits)
 
 pub returns-in-Ok-carry_out-clause-trees : goal.returns-in-Ok-carry_out-clause-trees
 returns-in-Ok-carry_out-clause-trees g c one two work =
@@ -118,7 +118,7 @@ returns-clause-base g c one two work =
     let fits = are_within c.args.limits.now c.in-Ok.prepared c.in-Ok.ensures.within1 c.in-Ok.ensures.within2 in
     base_held c.args.mode c.args.limits.now c.args.opts.now.compare c.args.entered.now.rules a b a2 b2 f f2 c.in-Ok.prepared (c.in-Ok.ensures.plan one two) looked windows (c.in-Ok.ensures.folder work)
     c.in-Ok.ensures.compare (c.in-Ok.ensures.new_stamp work) (g.W.Work.state c.carry_out.new.work).folder
-    (by_side (g.A.Remote.state c.carry_out.new.one) (g.B.Remote.state c.carry_out.new.two)) (c.in-Err-carry_out.ensures.base one two work c.args.limits.now.listing small fits)
+    (by_side (g.A.Remote.state c.carry_out.new.one) (g.B.Remote.state c.carry_out.new.two)) (c.in-Ok.ensures.accepted one two work) (c.in-Err-carry_out.ensures.base one two work c.args.limits.now.listing small fits)
 
 pub returns-clause-trees : goal.returns-clause-trees
 returns-clause-trees g c one two work =
@@ -182,7 +182,7 @@ returns-in-Ok-carry_out-clause-folder_base g c work =
     let f2 = (g.W.Work.state c.look_resync.new.work).folder in
     let small : c.args.limits.now.listing < 2 ^ 64 = omega arith in
     let fits = are_within c.args.limits.now c.in-Ok.prepared c.in-Ok.ensures.within1 c.in-Ok.ensures.within2 in
-    lost_or_next c.args.limits.now _ f f2 (c.in-Ok.ensures.folder work) c.in-Ok.prepared c.in-Ok.ensures.compare (c.in-Ok.ensures.new_stamp work) (g.W.Work.state c.carry_out.new.work).folder
+    lost_or_next c.args.limits.now _ f f2 (c.in-Ok.ensures.folder work) c.in-Ok.prepared c.in-Ok.ensures.compare (c.in-Ok.ensures.new_stamp work) (g.W.Work.state c.carry_out.new.work).folder _
     (c.in-Ok-carry_out.ensures.folder_base work c.args.limits.now.listing small fits)
 
 pub returns-in-Ok-carry_out-clause-folder_next : goal.returns-in-Ok-carry_out-clause-folder_next
@@ -200,5 +200,5 @@ returns-clause-folder_base g c work =
     let f2 = (g.W.Work.state c.look_resync.new.work).folder in
     let small : c.args.limits.now.listing < 2 ^ 64 = omega arith in
     let fits = are_within c.args.limits.now c.in-Ok.prepared c.in-Ok.ensures.within1 c.in-Ok.ensures.within2 in
-    lost_or_next c.args.limits.now _ f f2 (c.in-Ok.ensures.folder work) c.in-Ok.prepared c.in-Ok.ensures.compare (c.in-Ok.ensures.new_stamp work) (g.W.Work.state c.carry_out.new.work).folder
+    lost_or_next c.args.limits.now _ f f2 (c.in-Ok.ensures.folder work) c.in-Ok.prepared c.in-Ok.ensures.compare (c.in-Ok.ensures.new_stamp work) (g.W.Work.state c.carry_out.new.work).folder _
     (c.in-Err-carry_out.ensures.folder_base work c.args.limits.now.listing small fits)

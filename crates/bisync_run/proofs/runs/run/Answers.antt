@@ -1,4 +1,4 @@
-use Rattle.std.proofs.Common.{◌≡◌, ◌<◌, ◌^◌, ◌∙◌, ◌++◌, ap, arith, sym, subst, true, List, ℕ}
+use Rattle.std.proofs.Common.{◌≡◌, ◌<◌, ◌^◌, ◌∙◌, ◌++◌, ap, arith, inl, inr, sym, subst, true, List, ℕ}
 use Rattle.bisync_device.specs.Sink.{SinkState}
 use Rattle.bisync_model.specs.Trees.{by_side}
 use Rattle.bisync_report.specs.LastLine.{last_text}
@@ -10,10 +10,10 @@ use Rattle.bisync_run.specs.ResyncRuns.{HasNumbers, TellsRun}
 use Rattle.bisync_run.proofs.BeginningLaws.{begins_told}
 use Rattle.bisync_run.proofs.BuiltEnds.{told_built}
 use Rattle.bisync_run.proofs.ClosedEnds.{tells_last}
-use Rattle.bisync_run.proofs.ClosedKinds.{no_rise_first, own_told, early_told, fell_told, freed_told, held_told, unlocked_told}
+use Rattle.bisync_run.proofs.ClosedKinds.{no_rise_first, own_told, early_told, fell_told, unfallen_told, freed_told, held_told, unlocked_told}
 use Rattle.bisync_run.proofs.InSyncRuns.{in_sync_after, resync_in_sync_after, was_apart}
 use Rattle.bisync_run.proofs.EndLaws.{no_rise_since}
-use Rattle.bisync_run.proofs.FolderBases.{folder_images}
+use Rattle.bisync_run.proofs.FolderBases.{folder_base_told, folder_images}
 use Rattle.bisync_run.proofs.OrdinaryTold.{ordinary_told, resilient_images, run_answers_told, run_images, run_tells_last}
 use Rattle.bisync_run.proofs.SafeRuns.{keeps_safe}
 use Rattle.bisync_run.proofs.ToldEnds.{after_good_told, good_told, told_same, answers_told, images}
@@ -100,7 +100,8 @@ pub returns-clause-freed : goal.returns-clause-freed
 returns-clause-freed g c work freed = c.run_to_close-end.ensures.freed work (freed_told c.run_to_close-end.result c.tell_end.result c.tell_end.ensures.end freed)
 
 pub returns-clause-lock_new : goal.returns-clause-lock_new
-returns-clause-lock_new g c work never = c.run_to_close-end.ensures.lock_new work never
+returns-clause-lock_new g c work (inl good) = c.run_to_close-end.ensures.lock_new work (inl (after_good_told c.run_to_close-end.result c.tell_end.result c.tell_end.ensures.end good))
+returns-clause-lock_new g c work (inr never) = c.run_to_close-end.ensures.lock_new work (inr never)
 
 pub returns-clause-no_digest : goal.returns-clause-no_digest
 returns-clause-no_digest g c work none = c.run_to_close-end.ensures.no_digest work none
@@ -208,7 +209,9 @@ pub returns-clause-run_trees : goal.returns-clause-run_trees
 returns-clause-run_trees g c none one two work = c.run_to_close-end.ensures.run_trees none one two work
 
 pub returns-clause-run_rest : goal.returns-clause-run_rest
-returns-clause-run_rest g c none work = c.run_to_close-end.ensures.run_rest none work
+returns-clause-run_rest g c none work =
+    let rest = c.run_to_close-end.ensures.run_rest none work in
+    (rest.0, λ stays. rest.1 (unfallen_told c.args.opts.now.resilient c.args.opts.now.dry_run c.run_to_close-end.result c.tell_end.result c.tell_end.ensures.end stays))
 
 pub returns-clause-only_run : goal.returns-clause-only_run
 returns-clause-only_run g c none = ordinary_told c.args.opts.now _ c.run_to_close-end.result c.tell_end.result c.tell_end.ensures.end (c.run_to_close-end.ensures.only_run none)
@@ -278,12 +281,18 @@ returns-clause-begun g c none work good =
     c.run_to_close-end.ensures.begun none work (after_good_told c.run_to_close-end.result c.tell_end.result c.tell_end.ensures.end good)
 
 pub returns-clause-folder_base : goal.returns-clause-folder_base
-returns-clause-folder_base g c work = c.run_to_close-end.ensures.folder_base work
+returns-clause-folder_base g c work =
+    folder_base_told c.args.opts.now c.args.limits.now (by_side (g.A.Remote.state c.args.one.now) (g.B.Remote.state c.args.two.now)) (g.W.Work.state c.args.work.now).folder (g.W.Work.state c.run_to_close-end.new.work).folder
+    c.run_to_close-end.result c.tell_end.result c.tell_end.ensures.end (c.run_to_close-end.ensures.folder_base work)
 
 pub returns-clause-folder_images : goal.returns-clause-folder_images
 returns-clause-folder_images g c work settled image is =
-    folder_images c.args.opts.now c.args.limits.now (by_side (g.A.Remote.state c.args.one.now) (g.B.Remote.state c.args.two.now)) (g.W.Work.state c.args.work.now).folder (g.W.Work.state c.run_to_close-end.new.work).folder image
-    (c.run_to_close-end.ensures.folder_base work) (c.run_to_close-end.ensures.settled work settled) is
+    let start = by_side (g.A.Remote.state c.args.one.now) (g.B.Remote.state c.args.two.now) in
+    let f = (g.W.Work.state c.args.work.now).folder in
+    let h = (g.W.Work.state c.run_to_close-end.new.work).folder in
+    folder_images c.args.opts.now c.args.limits.now start f h c.tell_end.result image
+    (folder_base_told c.args.opts.now c.args.limits.now start f h c.run_to_close-end.result c.tell_end.result c.tell_end.ensures.end (c.run_to_close-end.ensures.folder_base work))
+    (c.run_to_close-end.ensures.settled work settled) is
 
 pub returns-clause-folder_next : goal.returns-clause-folder_next
 returns-clause-folder_next g c work writes good =

@@ -1,8 +1,9 @@
-use Rattle.std.proofs.Common.{Ok, Err, ℕ, refl, sym, ◌∙◌, subst}
+use Rattle.std.proofs.Common.{Ok, Err, ℕ, refl, sym, ◌∙◌, inl, inr, subst}
 use Rattle.bisync_device.specs.Faults.{Rose}
 use Rattle.bisync_tree.specs.declared.sides.Side.TheVariants.{One, Two}
 use Rattle.bisync_model.specs.Trees.{by_side}
 use Rattle.bisync_run.specs.Stepping.{FindsTold, MovedDiffers, MovedIsRead}
+use Rattle.bisync_run.proofs.EndCases.{false_true}
 use Rattle.bisync_run.proofs.LockNewLaws.{lock_new_twice, kept_lock_new}
 use Rattle.bisync_run.proofs.StepEnds.{found_end, moved_differs, moved_is_read}
 use Rattle.bisync_run.proofs.StepsDone.{part_now, done_now, both, going_next, keeping_next, fewer_left, none_left, split_here, part_end, causes_end, causes_lock, causes_none}
@@ -28,7 +29,8 @@ returns-in-Err-clause-causes g c =
     causes_lock _ _ _ _ _ _ _ (i.2.faults One) (i.2.faults Two) i.3.faults c.in-Err.ensures.cause
 
 pub returns-in-Err-clause-lock_new : goal.returns-in-Err-clause-lock_new
-returns-in-Err-clause-lock_new g c t never =
+returns-in-Err-clause-lock_new g c t (inl ok) = false_true ok
+returns-in-Err-clause-lock_new g c t (inr never) =
     absurd (never (subst (λ (n : ℕ). Rose n (g.W.Work.state c.keep_lock.new.work).faults) c.loop-step.invariant.3.faults (c.in-Err.ensures.cause.rose refl)))
 
 -- # The step was not done, or may not have been
@@ -70,7 +72,7 @@ returns-in-Err-perform-clause-causes g c =
     causes_end _ _ _ _ _ _ _ _ c.in-Some.step c.in-Err-perform.fault _ c.end_of.ensures (i.2.faults One) (i.2.faults Two) e.one.cause e.two.cause (c.in-Ok.ensures.cause.kept refl ∙ i.3.faults)
 
 pub returns-in-Err-perform-clause-lock_new : goal.returns-in-Err-perform-clause-lock_new
-returns-in-Err-perform-clause-lock_new g c t never =
+returns-in-Err-perform-clause-lock_new g c t sure =
     lock_new_twice (c.loop-step.invariant.3.lock_new t) (kept_lock_new c.in-Ok.ensures.kept t)
 
 -- # The step was done
@@ -125,7 +127,7 @@ pub returns-clause-part : goal.returns-clause-part
 returns-clause-part g c = part_now _ _ _ _ _ _ c.loop-step.invariant.2
 
 pub returns-clause-lock_new : goal.returns-clause-lock_new
-returns-clause-lock_new g c t never = c.loop-step.invariant.3.lock_new t
+returns-clause-lock_new g c t sure = c.loop-step.invariant.3.lock_new t
 
 pub returns-clause-windows : goal.returns-clause-windows
 returns-clause-windows g c = (c.loop-step.invariant.2.windows One, c.loop-step.invariant.2.windows Two)
