@@ -11,11 +11,12 @@ use Rattle.bisync_work.proofs.RenameLaws.{over}
 use Rattle.bisync_work.proofs.PairLaws.{no_first, lacks_absent}
 
 pub falls_refl : (f : WorkFolder) → Falls f f
-falls_refl f = record { base = λ limit o is. inl is; unused = λ limit n u. u; settled = λ s. s; rest = refl }
+falls_refl f = record { base = λ limit o is. inl is; pair = λ limit pair b is. inl is; unused = λ limit n u. u; settled = λ s. s; rest = refl }
 
 pub falls_then : {f g h : WorkFolder} → Falls f g → Falls g h → Falls f h
 falls_then {h = h} a b = record {
   base = λ limit o is. ⊎_elim (λ same. b.base limit o same) (λ none. inr (gone limit (b.base limit None none))) (a.base limit o is);
+  pair = λ limit pair o is. ⊎_elim (λ same. b.pair limit pair o same) (λ none. inr (gone limit (b.base limit None none))) (a.pair limit pair o is);
   unused = λ limit n u. b.unused limit n (a.unused limit n u);
   settled = λ s. b.settled (a.settled s);
   rest = b.rest ∙ a.rest;
@@ -33,18 +34,19 @@ module _ (f : WorkFolder) where
 
   -- # 1.lst-old to 1.lst-err
 
-  one_old_in : (limit : ℕ) (pair : Pair) (b : Base) → HasBaseIn limit f pair b → IsBase limit (over name.OneOld name.OneErr f) (Some b) ⊎ HasNoBase limit (over name.OneOld name.OneErr f)
-  one_old_in limit Current b is = inl (Current, is)
+  one_old_in : (limit : ℕ) (pair : Pair) (b : Base) → HasBaseIn limit f pair b → HasBaseIn limit (over name.OneOld name.OneErr f) pair b ⊎ HasNoBase limit (over name.OneOld name.OneErr f)
+  one_old_in limit Current b is = inl is
   one_old_in limit Mixed b is = inr (is.0, no_first limit f.two, no_first limit f.two_old)
   one_old_in limit Old b is = inr (is.0, no_first limit f.two, no_first limit f.two_old)
 
   one_old_base : (limit : ℕ) (o : Option Base) → IsBase limit f o → IsBase limit (over name.OneOld name.OneErr f) o ⊎ HasNoBase limit (over name.OneOld name.OneErr f)
   one_old_base limit None is = inr (is.0, no_first limit f.two, no_first limit f.two_old)
-  one_old_base limit (Some b) is = one_old_in limit is.0 b is.1
+  one_old_base limit (Some b) is = ⊎_elim (λ same. inl (is.0, same)) inr (one_old_in limit is.0 b is.1)
 
   pub one_old_falls : Falls f (over name.OneOld name.OneErr f)
   one_old_falls = record {
     base = one_old_base;
+    pair = one_old_in;
     unused = λ limit n u. record { one = u.one; two = u.two; one_old = lacks_absent limit n; two_old = u.two_old };
     settled = λ s. record { one = s.one; two = s.two; one_old = tt; two_old = s.two_old; filters = s.filters };
     rest = refl;
@@ -55,6 +57,7 @@ module _ (f : WorkFolder) where
   pub one_falls : f.one_old ≡ Absent → Falls f (over name.One name.OneErr f)
   one_falls old = record {
     base = λ limit o is. inr (none_of limit Absent f.one_old f.two f.two_old refl old);
+    pair = λ limit pair b is. inr (none_of limit Absent f.one_old f.two f.two_old refl old);
     unused = λ limit n u. record { one = lacks_absent limit n; two = u.two; one_old = u.one_old; two_old = u.two_old };
     settled = λ s. record { one = tt; two = s.two; one_old = s.one_old; two_old = s.two_old; filters = s.filters };
     rest = refl;
@@ -65,6 +68,7 @@ module _ (f : WorkFolder) where
   pub two_old_falls : f.one ≡ Absent → f.one_old ≡ Absent → Falls f (over name.TwoOld name.TwoErr f)
   two_old_falls one old = record {
     base = λ limit o is. inr (none_of limit f.one f.one_old f.two Absent one old);
+    pair = λ limit pair b is. inr (none_of limit f.one f.one_old f.two Absent one old);
     unused = λ limit n u. record { one = u.one; two = u.two; one_old = u.one_old; two_old = lacks_absent limit n };
     settled = λ s. record { one = s.one; two = s.two; one_old = s.one_old; two_old = tt; filters = s.filters };
     rest = refl;
@@ -73,6 +77,7 @@ module _ (f : WorkFolder) where
   pub two_falls : f.one ≡ Absent → f.one_old ≡ Absent → Falls f (over name.Two name.TwoErr f)
   two_falls one old = record {
     base = λ limit o is. inr (none_of limit f.one f.one_old Absent f.two_old one old);
+    pair = λ limit pair b is. inr (none_of limit f.one f.one_old Absent f.two_old one old);
     unused = λ limit n u. record { one = u.one; two = lacks_absent limit n; one_old = u.one_old; two_old = u.two_old };
     settled = λ s. record { one = s.one; two = tt; one_old = s.one_old; two_old = s.two_old; filters = s.filters };
     rest = refl;

@@ -11,7 +11,7 @@ use Rattle.bisync_work.proofs.RenameLaws.{over}
 use Rattle.bisync_work.proofs.PairLaws.{listing_over, one_listing, synced_over}
 
 pub switches_refl : (f : WorkFolder) → Switches f f
-switches_refl f = record { base = λ limit next small ready o is. inl is; settled = λ one two s. s; rest = refl }
+switches_refl f = record { base = λ limit next small ready o is. inl is; older = λ limit next small ready b is. inl is; settled = λ one two s. s; rest = refl }
 
 module _ (limit : ℕ) (f : WorkFolder) (next : Base) (small : limit < 2 ^ 64) (ready : IsReady limit f next) where
   -- the new listing of Path1 has a stamp that no other listing has
@@ -21,10 +21,13 @@ module _ (limit : ℕ) (f : WorkFolder) (next : Base) (small : limit < 2 ^ 64) (
       let same = one_listing limit limit f.one_new b.header next.header b.one next.one small small first.first ready.one in
       ready.unused.two b.header b.two p.second (ap (λ (h : Header). h.stamp) same.0)
 
+  pub half_old : (b : Base) → HasBaseIn limit f Old b → HasBaseIn limit (over name.OneNew name.One f) Old b
+  half_old b is = (new_apart, ready.no_mixed, is.2)
+
   half_in : (pair : Pair) (b : Base) → HasBaseIn limit f pair b → IsBase limit (over name.OneNew name.One f) (Some b)
   half_in Current b is = absurd (ready.no_current b is)
   half_in Mixed b is = absurd (ready.no_mixed b is.1)
-  half_in Old b is = (Old, (new_apart, ready.no_mixed, is.2))
+  half_in Old b is = (Old, half_old b is)
 
   pub half_keeps : (o : Option Base) → IsBase limit f o → IsBase limit (over name.OneNew name.One f) o
   half_keeps None is = (new_apart, ready.no_mixed, is.2)
@@ -47,6 +50,7 @@ module _ (limit : ℕ) (f : WorkFolder) (next : Base) (small : limit < 2 ^ 64) (
 pub half_switches : (f : WorkFolder) → Switches f (over name.OneNew name.One f)
 half_switches f = record {
   base = λ limit next small ready o is. inl (half_keeps limit f next small ready o is);
+  older = λ limit next small ready b is. inl (half_old limit f next small ready b is);
   settled = λ one two s. record { one = synced_over f.one_new f.one one s.one; two = s.two; one_old = s.one_old; two_old = s.two_old; filters = s.filters };
   rest = refl;
 }
@@ -54,6 +58,7 @@ half_switches f = record {
 pub whole_switches : (f : WorkFolder) → Switches f (over name.TwoNew name.Two (over name.OneNew name.One f))
 whole_switches f = record {
   base = λ limit next small ready o is. inr (Current, (whole_switched limit f next small ready).base);
+  older = λ limit next small ready b is. inr (whole_switched limit f next small ready).base;
   settled = λ one two s. record { one = synced_over f.one_new f.one one s.one; two = synced_over f.two_new f.two two s.two; one_old = s.one_old; two_old = s.two_old; filters = s.filters };
   rest = refl;
 }

@@ -32,10 +32,11 @@ pub record SetsBack (pair : Pair) (old new : WorkFolder) : Type 0 where
   pub settled : IsSettled old → IsSettled new
   pub rest : but_set_back pair new ≡ but_set_back pair old
 
--- The base is as before, or there is none. A stamp that was unused still is, what was settled still is, and only the
--- four names of a base and the -err names changed.
+-- The base is as before, under the same names, or there is none. A stamp that was unused still is, what was settled still
+-- is, and only the four names of a base and the -err names changed.
 pub record Falls (old new : WorkFolder) : Type 0 where
   pub base : (limit : ℕ) (base : Option Base) → IsBase limit old base → IsBase limit new base ⊎ HasNoBase limit new
+  pub pair : (limit : ℕ) (pair : Pair) (base : Base) → HasBaseIn limit old pair base → HasBaseIn limit new pair base ⊎ HasNoBase limit new
   pub unused : (limit n : ℕ) → IsUnused limit old n → IsUnused limit new n
   pub settled : IsSettled old → IsSettled new
   pub rest : but_fallen new ≡ but_fallen old
@@ -51,11 +52,13 @@ pub record IsReady (limit : ℕ) (f : WorkFolder) (next : Base) : Type 0 where
   pub no_current : NoPair limit f.one f.two
   pub no_mixed : NoPair limit f.one_old f.two
 
--- The base is as before or the next one, where that was ready. What was settled still is, where the -new names were
--- synced, and only the first names and the -new names changed.
+-- The base is as before, that of the -old names under them, or the next one, where that was ready. What was settled still
+-- is, where the -new names were synced, and only the first names and the -new names changed.
 pub record Switches (old new : WorkFolder) : Type 0 where
   pub base : (limit : ℕ) (next : Base) → limit < 2 ^ 64 → IsReady limit old next
       → (base : Option Base) → IsBase limit old base → IsBase limit new base ⊎ IsBase limit new (Some next)
+  pub older : (limit : ℕ) (next : Base) → limit < 2 ^ 64 → IsReady limit old next
+      → (base : Base) → HasBaseIn limit old Old base → HasBaseIn limit new Old base ⊎ HasBaseIn limit new Current next
   pub settled : IsSynced old.one_new → IsSynced old.two_new → IsSettled old → IsSettled new
   pub rest : but_switched new ≡ but_switched old
 
