@@ -2,11 +2,13 @@
 use Rattle.std.proofs.Common.{◌≡◌, ◌⊎◌, ℕ, sym, ◌∙◌, ap, subst, inl, inr, ⊎_elim, Option, None}
 use Rattle.bisync_device.specs.WorkFolder.{Absent, WorkFolder, IsSettled, with_held}
 use Rattle.bisync_device.specs.declared.works.WorkName.TheVariants.{Lock}
-use Rattle.bisync_work.specs.Base.{Base, IsBase, HasNoBase}
+use Rattle.bisync_work.specs.declared.bases.Pair.{Pair}
+use Rattle.bisync_work.specs.Base.{Base, HasBaseIn, IsBase, HasNoBase}
 use Rattle.bisync_work.specs.Moves.{Falls, IsFallen, SameListings, but_fallen, moved_over}
 use Rattle.bisync_work.specs.Locks.{ChangesLock}
-use Rattle.bisync_work.proofs.BaseLaws.{same_keeps}
+use Rattle.bisync_work.proofs.BaseLaws.{same_keeps, same_in_pair}
 use Rattle.bisync_run.specs.Closing.{Closes, Unlocks}
+use Rattle.bisync_run.specs.LeftNames.{FallsAs}
 
 -- the folder is as before, or without its lock
 abbrev pub MayUnlock : WorkFolder → WorkFolder → Type 0
@@ -34,12 +36,23 @@ base_then f g h fell only limit base is =
     let keeps = same_keeps limit g h (same_listings g h only) in
     ⊎_elim (λ same. inl (keeps.base base same)) (λ none. inr (keeps.base None none)) (fell.base limit base is)
 
+pair_then : (f g h : WorkFolder) → Falls f g → Unlocks g h → (limit : ℕ) (pair : Pair) (base : Base) → HasBaseIn limit f pair base → HasBaseIn limit h pair base ⊎ HasNoBase limit h
+pair_then f g h fell only limit pair base is =
+    let same = same_listings g h only in
+    ⊎_elim (λ stays. inl (same_in_pair limit g h same pair base stays)) (λ none. inr ((same_keeps limit g h same).base None none)) (fell.pair limit pair base is)
+
+lock_then : (f g h : WorkFolder) → Falls f g → MayUnlock g h → (h.lock ≡ f.lock) ⊎ (h.lock ≡ Absent)
+lock_then f g h fell (inl same) = inl (ap (λ (x : WorkFolder). x.lock) same ∙ ap (λ (x : WorkFolder). x.lock) fell.rest)
+lock_then f g h fell (inr gone) = inr (ap (λ (x : WorkFolder). x.lock) gone)
+
 -- a fall that may have ended early, and then the lock
 pub closes : (f g h : WorkFolder) → Falls f g → MayUnlock g h → Closes f h
 closes f g h fell may =
     let only = unlocks g h may in
     record {
       base = base_then f g h fell only;
+      pair = pair_then f g h fell only;
+      lock = lock_then f g h fell may;
       settled = λ s. still_settled g h only (fell.settled s);
       rest = ap but_fallen only.rest ∙ ap (with_held Lock Absent) fell.rest;
     }
@@ -58,12 +71,12 @@ fell_unlocked f g h fell may =
     }
 
 -- said of the folder before the lock was taken
-pub fell_before : (f f2 mid h : WorkFolder) → ChangesLock f f2 → mid ≡ f2 → IsFallen mid h → IsFallen f h
+pub fell_before : (f f2 mid h : WorkFolder) → ChangesLock f f2 → FallsAs f2 mid → IsFallen mid h → IsFallen f h
 fell_before f f2 mid h changes same fell = record {
   one = fell.one;
   two = fell.two;
   one_old = fell.one_old;
   two_old = fell.two_old;
-  one_err = fell.one_err ∙ ap (λ (w : WorkFolder). moved_over w.one (moved_over w.one_old w.one_err)) same ∙ ap (λ (w : WorkFolder). moved_over w.one (moved_over w.one_old w.one_err)) changes.rest;
-  two_err = fell.two_err ∙ ap (λ (w : WorkFolder). moved_over w.two (moved_over w.two_old w.two_err)) same ∙ ap (λ (w : WorkFolder). moved_over w.two (moved_over w.two_old w.two_err)) changes.rest;
+  one_err = fell.one_err ∙ same.one ∙ ap (λ (w : WorkFolder). moved_over w.one (moved_over w.one_old w.one_err)) changes.rest;
+  two_err = fell.two_err ∙ same.two ∙ ap (λ (w : WorkFolder). moved_over w.two (moved_over w.two_old w.two_err)) changes.rest;
 }

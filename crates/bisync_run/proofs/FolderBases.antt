@@ -41,7 +41,7 @@ use Rattle.bisync_run.proofs.OrdinaryHeld.{prepared_of}
 use Rattle.bisync_run.proofs.ToldEnds.{image_keeps}
 
 -- the listings of a plan are a new base
-next_of : (limits : Limits) (compare : Compare) (f : WorkFolder) (prepared : Prepared) → prepared.compare ≡ compare → IsNewStamp limits.listing f prepared.stamp
+pub next_of : (limits : Limits) (compare : Compare) (f : WorkFolder) (prepared : Prepared) → prepared.compare ≡ compare → IsNewStamp limits.listing f prepared.stamp
     → IsNextOf limits compare f (next_base prepared)
 next_of limits compare f prepared fields new = record { stamp = prepared.stamp; new = new; header = ap (header_of prepared.stamp) fields }
 

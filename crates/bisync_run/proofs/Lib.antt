@@ -54,3 +54,6 @@ pub mod LookBeginnings
 pub mod WholeRefusals
 pub mod InSyncRuns
 pub mod FolderBases
+pub mod FallsAsLaws
+pub mod OwnLocks
+pub mod BasesSetBack

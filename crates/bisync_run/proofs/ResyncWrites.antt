@@ -48,5 +48,9 @@ module _ (f g : WorkFolder) where
   digest_same : ChangesOnly FiltersMd5 f g → SameListings f g
   digest_same o = record { one = ap (λ (x : WorkFolder). x.one) o.rest; two = ap (λ (x : WorkFolder). x.two) o.rest; one_old = ap (λ (x : WorkFolder). x.one_old) o.rest; two_old = ap (λ (x : WorkFolder). x.two_old) o.rest }
 
+  -- without a base there is none, whatever the digest file holds
+  pub none_past_digest : (limit : ℕ) → HasNoBase limit f → ChangesOnly FiltersMd5 f g → HasNoBase limit g
+  none_past_digest limit none o = (same_keeps limit f g (digest_same o)).base None none
+
   pub digest_loses : ChangesOnly FiltersMd5 f g → Loses f g
   digest_loses o = same_loses f g (digest_same o) (ap (λ (x : WorkFolder). x.filters) o.rest)

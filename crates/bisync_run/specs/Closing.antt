@@ -3,7 +3,8 @@ use Rattle.std.specs.Prelude.{◌≡◌, ◌⊎◌, ◌≤◌, ℕ, true, Option
 use Rattle.bisync_device.specs.Faults.{Rose}
 use Rattle.bisync_device.specs.WorkFolder.{Absent, WorkFolder, IsSettled, with_held}
 use Rattle.bisync_device.specs.declared.works.WorkName.TheVariants.{Lock}
-use Rattle.bisync_work.specs.Base.{Base, IsBase, HasNoBase}
+use Rattle.bisync_work.specs.declared.bases.Pair.{Pair}
+use Rattle.bisync_work.specs.Base.{Base, HasBaseIn, IsBase, HasNoBase}
 use Rattle.bisync_work.specs.Locks.{but_lock}
 use Rattle.bisync_work.specs.Moves.{but_fallen}
 use Rattle.bisync_report.specs.declared.ends.End.{End}
@@ -20,10 +21,12 @@ abbrev pub CountsClose : Result End End → End → ℕ → ℕ → Type 0
 CountsClose (Ok good) end before now = ((end ≡ good) × (now ≡ before)) ⊎ ((end ≡ LockLeft) × Rose before now)
 CountsClose (Err refusal) end before now = before ≤ now
 
--- the base is as before or there is none; what was settled still is, and only the names of a base, the -err names and
--- the lock changed
+-- the base is as before, under the same names, or there is none; the lock is as before or gone; what was settled still is,
+-- and only the names of a base, the -err names and the lock changed
 pub record Closes (old new : WorkFolder) : Type 0 where
   pub base : (limit : ℕ) (base : Option Base) → IsBase limit old base → IsBase limit new base ⊎ HasNoBase limit new
+  pub pair : (limit : ℕ) (pair : Pair) (base : Base) → HasBaseIn limit old pair base → HasBaseIn limit new pair base ⊎ HasNoBase limit new
+  pub lock : (new.lock ≡ old.lock) ⊎ (new.lock ≡ Absent)
   pub settled : IsSettled old → IsSettled new
   pub rest : with_held Lock Absent (but_fallen new) ≡ with_held Lock Absent (but_fallen old)
 

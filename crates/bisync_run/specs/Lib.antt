@@ -31,3 +31,4 @@ pub mod RunRefusals
 pub mod Agreement
 pub mod FolderBases
 pub mod LookRuns
+pub mod LeftNames

@@ -1,6 +1,6 @@
 //! An ordinary run from its first change on.
 
-ghost use Rattle.std.specs.Prelude.{◌≡◌, ◌⊎◌, ◌<◌, ℕ, IsTrue, IsOk, IfOk, IfErr, OnOk, None, is_err, length, sum_by};
+ghost use Rattle.std.specs.Prelude.{◌≡◌, ◌⊎◌, ◌<◌, ℕ, IsTrue, IsOk, IfOk, IfErr, OnOk, Some, None, is_err, length, sum_by};
 ghost use Rattle.bisync_tree.specs.Ranges.{IsLongEnough};
 ghost use Rattle.bisync_model.specs.Trees.{by_side};
 ghost use Rattle.bisync_model.specs.Changes.{changes_of};
@@ -8,15 +8,19 @@ ghost use Rattle.bisync_plan.specs.Plans.{AreWritable, header_of};
 ghost use Rattle.bisync_device.specs.Faults.{Rose};
 ghost use Rattle.bisync_device.specs.WorkFolder.{IsSynced, IsSettled};
 ghost use Rattle.bisync_transfer.specs.StepTrees.{AreDone};
-ghost use Rattle.bisync_work.specs.Base.{Base, HasBaseIn};
+ghost use Rattle.bisync_work.specs.declared.bases.Pair.TheVariants.{Old};
+ghost use Rattle.bisync_work.specs.Base.{Base, HasBaseIn, IsBase};
 ghost use Rattle.bisync_work.specs.Moves.{KeepsBase};
 ghost use Rattle.bisync_work.specs.WorkCalls.{AreWorkCalls};
 ghost use Rattle.bisync_run.specs.Counts.{counts, HasCauses};
 ghost use Rattle.bisync_run.specs.EndKinds.{may_have_switched_after};
+ghost use Rattle.bisync_run.specs.LeftNames.{FallsAs, KeepsOwnLock};
 ghost use Rattle.bisync_run.specs.LockNew.{KeepsLockNew};
 ghost use Rattle.bisync_run.specs.Ordinary.{but_ordinary};
 ghost use Rattle.bisync_run.specs.OrdinaryChanges.{IsPrepared, IsSetBack, KeepsOrNext, KeepsOrSwitches, IsNextSet, but_listings};
+ghost use Rattle.bisync_run.specs.ResyncWriting.{next_base};
 ghost use Rattle.bisync_run.specs.Stepping.{IsPartDone, FindsAll, FindsTold, IsStepEnd, MovedDiffers, MovedIsRead};
+ghost use Rattle.bisync_run.specs.Untouched.{AreUntouched};
 
 use crate::prepared::Prepared;
 use crate::steps::{Changes, Renewal, do_steps};
@@ -34,6 +38,7 @@ fn write_ordinary<W: Work>(work: &mut W, prepared: &Prepared, pair: Pair) -> Res
     ensures settled { IsTrue W.tells → IsSettled (W.state work.old).folder → IsSettled (W.state work.new).folder }
     ensures rest { IsTrue W.tells → but_listings (W.state work.new).folder ≡ but_listings (W.state work.old).folder }
     ensures set_back { IsTrue W.tells → (limit : ℕ) (before : Base) → IsPrepared limit (W.state work.old).folder pair before prepared.now → OnOk result (IsSetBack limit before prepared.now (W.state work.new).folder) }
+    ensures falls_as { IsTrue W.tells → OnOk result (FallsAs (W.state work.old).folder (W.state work.new).folder) }
     ensures synced1 { IsTrue W.tells → OnOk result (IsSynced (W.state work.new).folder.one_new) }
     ensures synced2 { IsTrue W.tells → OnOk result (IsSynced (W.state work.new).folder.two_new) }
     ensures calls { AreWorkCalls (is_err result) (W.state work.old) (W.state work.new) }
@@ -65,6 +70,10 @@ pub fn carry_out_ordinary<A: Remote, B: Remote, W: Work, C: Clock>(
     ensures rest { IsTrue W.tells → but_ordinary (W.state work.new).folder ≡ but_ordinary (W.state work.old).folder }
     ensures lock_new { IsTrue W.tells → IsOk result ⊎ (Rose (W.state work.old).faults (W.state work.new).faults → ⊥) → KeepsLockNew (W.state work.old).folder (W.state work.new).folder }
     ensures folder_base { IsTrue W.tells → (limit : ℕ) (before : Base) → IsPrepared limit (W.state work.old).folder pair before prepared → KeepsOrNext limit prepared (may_have_switched_after result) (W.state work.old).folder (W.state work.new).folder }
+    ensures falls_as { IsTrue W.tells → (Rose (W.state work.old).faults (W.state work.new).faults → ⊥) → IfErr result (λ _. FallsAs (W.state work.old).folder (W.state work.new).folder) }
+    ensures own_lock { IsTrue W.tells → KeepsOwnLock renewal.max_lock C.tells (C.moment clock.old) (W.state work.old).folder.lock (W.state work.new).folder.lock }
+    ensures set_back { IsTrue A.tells → IsTrue B.tells → IsTrue W.tells → (limit : ℕ) (before : Base) → IsPrepared limit (W.state work.old).folder pair before prepared
+        → AreUntouched (by_side (A.state one.old) (B.state two.old)) (by_side (A.state one.new) (B.state two.new)) ⊎ (HasBaseIn limit (W.state work.new).folder Old before ⊎ IsBase limit (W.state work.new).folder (Some (next_base prepared))) }
     ensures next_set { IsTrue W.tells → (limit : ℕ) (before : Base) → IsPrepared limit (W.state work.old).folder pair before prepared → OnOk result (IsNextSet limit before prepared (W.state work.new).folder) }
     ensures done { IsTrue A.tells → IsTrue B.tells → OnOk result (AreDone prepared.plan.steps.items (by_side (A.state one.old) (B.state two.old)) (by_side (A.state one.new) (B.state two.new))) }
     ensures part { IsTrue A.tells → IsTrue B.tells → IsPartDone prepared.plan.steps.items (by_side (A.state one.old) (B.state two.old)) (by_side (A.state one.new) (B.state two.new)) }

@@ -19,8 +19,9 @@ ghost use Rattle.bisync_run.specs.Closing.{HasNoListings, but_fallen_or_lock};
 ghost use Rattle.bisync_run.specs.Counts.{counts, Later, Ends};
 ghost use Rattle.bisync_run.specs.EndKinds.{is_good, is_after_good, has_freed, is_before_lock, is_unlocked, lets_fall, may_have_changed, may_tell_plan};
 ghost use Rattle.bisync_run.specs.Entering.{AtMoment, HasSomeRules, IsEntryEnd, IsHeldBack};
-ghost use Rattle.bisync_run.specs.FolderBases.{LeavesFolderBase, LeavesNextInPlace, Writes};
+ghost use Rattle.bisync_run.specs.FolderBases.{LeavesFolderBase, LeavesNextInPlace, Writes, compared};
 ghost use Rattle.bisync_run.specs.Grounds.{HasGrounds, IsTold};
+ghost use Rattle.bisync_run.specs.LeftNames.{LeavesBaseSetBack, LeavesOwnLock, StoresDigestLate};
 ghost use Rattle.bisync_run.specs.LockNew.{KeepsLockNew};
 ghost use Rattle.bisync_run.specs.Ordinary.{KeepsOrdinaryRest};
 ghost use Rattle.bisync_run.specs.OrdinaryEnds.{IsOrdinaryEnd};
@@ -88,6 +89,7 @@ pub fn run<A: Remote, B: Remote, W: Work, C: Clock, S: Sink>(
         KeepsOrdinaryBaseOf opts.now limits.now (W.state work.old).folder (by_side (A.state one.old) (B.state two.old)) (W.state work.new).folder (by_side (A.state one.new) (B.state two.new)) }
     ensures run_trees { opts.now.resync ≡ None → IsTrue A.tells → IsTrue B.tells → IsTrue W.tells →
         LeavesOrdinaryTreesOf opts.now limits.now (W.state work.old).folder (by_side (A.state one.old) (B.state two.old)) C.tells (C.moment clock.old) (by_side (A.state one.new) (B.state two.new)) }
+    ensures set_back { opts.now.resync ≡ None → IsTrue A.tells → IsTrue B.tells → IsTrue W.tells → LeavesBaseSetBack limits.now (compared opts.now (by_side (A.state one.old) (B.state two.old))) (W.state work.old).folder (by_side (A.state one.old) (B.state two.old)) (W.state work.new).folder (by_side (A.state one.new) (B.state two.new)) }
     ensures run_rest { opts.now.resync ≡ None → IsTrue W.tells → KeepsOrdinaryRest (lets_fall opts.now.resilient opts.now.dry_run result) (W.state work.old).folder (W.state work.new).folder }
     ensures only_run { opts.now.resync ≡ None → IsOrdinaryEnd opts.now (compare_in opts.now.compare (A.state one.old).window (B.state two.old).window) result }
     ensures run_images { opts.now.resync ≡ None → IsTrue A.tells → IsTrue B.tells → IsTrue W.tells →
@@ -98,7 +100,7 @@ pub fn run<A: Remote, B: Remote, W: Work, C: Clock, S: Sink>(
         IsSettled (W.state work.old).folder → (image : WorkFolder) → IsImage (W.state work.new).folder image → KeepsSafe opts.now limits.now (W.state work.old).folder (by_side (A.state one.old) (B.state two.old)) image (by_side (A.state one.new) (B.state two.new)) }
     ensures only_one { opts.now.resync ≡ None → opts.now.check_sync ≡ CheckSync.Only → KeepsTree A.tells (A.state one.old) (A.state one.new) }
     ensures only_two { opts.now.resync ≡ None → opts.now.check_sync ≡ CheckSync.Only → KeepsTree B.tells (B.state two.old) (B.state two.new) }
-    ensures only_base { opts.now.resync ≡ None → opts.now.check_sync ≡ CheckSync.Only → IsTrue W.tells → is_after_good result ≡ true → ChangesLock (W.state work.old).folder (W.state work.new).folder }
+    ensures only_base { opts.now.resync ≡ None → opts.now.check_sync ≡ CheckSync.Only → IsTrue W.tells → lets_fall opts.now.resilient opts.now.dry_run result ≡ false → ChangesLock (W.state work.old).folder (W.state work.new).folder }
     ensures entered { IsTrue W.tells → is_before_lock result ≡ false → AtMoment C.tells (C.moment clock.old) (λ now. IsFree now (W.state work.old).folder.lock) × HasSomeRules opts.now.filters (W.state work.old).folder }
     ensures blocked { IsTrue W.tells → AtMoment C.tells (C.moment clock.old) (λ now. KeepsBlocking now (W.state work.old).folder (W.state work.new).folder) }
     ensures folder_base { IsTrue W.tells → LeavesFolderBase opts.now limits.now (W.state work.old).folder (by_side (A.state one.old) (B.state two.old)) result (W.state work.new).folder }
@@ -111,15 +113,18 @@ pub fn run<A: Remote, B: Remote, W: Work, C: Clock, S: Sink>(
     ensures kept { IsTrue W.tells → may_have_changed result ≡ false → lets_fall opts.now.resilient opts.now.dry_run result ≡ false → ChangesLock (W.state work.old).folder (W.state work.new).folder }
     ensures only_fallen { IsTrue W.tells → may_have_changed result ≡ false → but_fallen_or_lock (W.state work.new).folder ≡ but_fallen_or_lock (W.state work.old).folder }
     ensures fallen { IsTrue W.tells → lets_fall opts.now.resilient opts.now.dry_run result ≡ true → (Rose (W.state work.old).faults (W.state work.new).faults → ⊥) → HasNoListings (W.state work.new).folder }
-    ensures fell { IsTrue W.tells → may_have_changed result ≡ false → lets_fall opts.now.resilient opts.now.dry_run result ≡ true → (Rose (W.state work.old).faults (W.state work.new).faults → ⊥) → IsFallen (W.state work.old).folder (W.state work.new).folder }
+    ensures fell { IsTrue W.tells → lets_fall opts.now.resilient opts.now.dry_run result ≡ true → (Rose (W.state work.old).faults (W.state work.new).faults → ⊥) → IsFallen (W.state work.old).folder (W.state work.new).folder }
     ensures dry_one { opts.now.dry_run ≡ true → KeepsTree A.tells (A.state one.old) (A.state one.new) }
     ensures dry_two { opts.now.dry_run ≡ true → KeepsTree B.tells (B.state two.old) (B.state two.new) }
     ensures dry { IsTrue W.tells → opts.now.dry_run ≡ true → ChangesLock (W.state work.old).folder (W.state work.new).folder }
     ensures lock { IsTrue W.tells → (Rose (W.state work.old).faults (W.state work.new).faults → ⊥) → LeavesLock result (W.state work.old).folder (W.state work.new).folder }
     ensures freed { IsTrue W.tells → has_freed result ≡ true → (W.state work.new).folder.lock ≡ Absent }
     ensures lock_new { IsTrue W.tells → (is_after_good result ≡ true) ⊎ (Rose (W.state work.old).faults (W.state work.new).faults → ⊥) → KeepsLockNew (W.state work.old).folder (W.state work.new).folder }
+    ensures own_lock { IsTrue W.tells → LeavesOwnLock opts.now.max_lock C.tells (C.moment clock.old) result (W.state work.old).folder.lock (W.state work.new).folder.lock }
+    ensures digest_late { IsTrue W.tells → StoresDigestLate limits.now (compared opts.now (by_side (A.state one.old) (B.state two.old))) (W.state work.old).folder (W.state work.new).folder }
     ensures no_digest { IsTrue W.tells → opts.now.filters ≡ None → (W.state work.new).folder.filters_md5 ≡ (W.state work.old).folder.filters_md5 }
     ensures entry { IsTrue W.tells → is_unlocked result ≡ true → IsEntryEnd opts.now.filters (W.state work.old).folder C.tells (C.moment clock.old) result }
+    ensures unlocked { IsTrue W.tells → is_unlocked result ≡ true → (W.state work.new).folder ≡ (W.state work.old).folder }
     ensures held_back { IsTrue C.tells → IsHeldBack (C.moment clock.old) result }
     ensures grounds { HasGrounds limits.now (by_side A.tells B.tells) result }
     ensures told { IsTold (by_side A.tells B.tells) (by_side (A.state one.old) (B.state two.old)) result }

@@ -10,6 +10,7 @@ ghost use Rattle.bisync_transfer.specs.StepEffect.{changed_side};
 ghost use Rattle.bisync_transfer.specs.StepTrees.{AreDone};
 ghost use Rattle.bisync_work.specs.Locks.{ChangesLock};
 ghost use Rattle.bisync_run.specs.Counts.{counts, HasCauses};
+ghost use Rattle.bisync_run.specs.LeftNames.{KeepsOwnLock};
 ghost use Rattle.bisync_run.specs.LockNew.{KeepsLockNew};
 ghost use Rattle.bisync_run.specs.Stepping.{IsPartDone, FindsAll, FindsTold, IsStepEnd, MovedDiffers, MovedIsRead, TellsStep, IsKept, path_of, end_of_step};
 
@@ -59,6 +60,7 @@ pub fn do_steps<A: Remote, B: Remote, W: Work, C: Clock>(
     ensures told { IfErr result (TellsStep steps.items) }
     ensures lock { IsTrue W.tells → ChangesLock (W.state work.old).folder (W.state work.new).folder }
     ensures lock_new { IsTrue W.tells → IsOk result ⊎ (Rose (W.state work.old).faults (W.state work.new).faults → ⊥) → KeepsLockNew (W.state work.old).folder (W.state work.new).folder }
+    ensures own_lock { IsTrue W.tells → KeepsOwnLock renewal.max_lock C.tells (C.moment clock.old) (W.state work.old).folder.lock (W.state work.new).folder.lock }
     ensures windows { ((A.state one.new).window ≡ (A.state one.old).window) × ((B.state two.new).window ≡ (B.state two.old).window) }
     ensures moment { IsTrue C.tells → C.moment clock.new ≡ C.moment clock.old }
     ensures left1 { (A.state one.old).left ≡ None → (A.state one.new).left ≡ None }
@@ -117,6 +119,7 @@ fn keep_lock<W: Work, C: Clock>(
     requires { IsLongEnough max_lock }
     ensures kept { IfOk result (λ moment. IsKept C.tells W.tells max_lock written_at (C.moment clock.old) (W.state work.old).folder moment (W.state work.new).folder) }
     ensures lock { IsTrue W.tells → ChangesLock (W.state work.old).folder (W.state work.new).folder }
+    ensures own_lock { IsTrue W.tells → KeepsOwnLock max_lock C.tells (C.moment clock.old) (W.state work.old).folder.lock (W.state work.new).folder.lock }
     ensures moment { IsTrue C.tells → C.moment clock.new ≡ C.moment clock.old }
     ensures left { (W.state work.old).left ≡ None → (W.state work.new).left ≡ None }
     ensures cause { HasCause (is_err result) (W.state work.old).faults (W.state work.new).faults }

@@ -4,10 +4,12 @@ use Rattle.bisync_device.specs.WorkFolder.{WorkFolder}
 use Rattle.bisync_model.specs.Trees.{by_side}
 use Rattle.bisync_report.specs.declared.ends.End.{End}
 use Rattle.bisync_run.specs.Counts.{counts, Stops}
+use Rattle.bisync_run.specs.EndKinds.{is_unlocked}
 use Rattle.bisync_run.specs.HeldResyncs.{IsGoodEndOf}
 use Rattle.bisync_run.specs.Ordinary.{IsGoodOrdinaryEnd}
 use Rattle.bisync_run.specs.ResyncRuns.{Matter}
 use Rattle.bisync_run.specs.Sides.{sides_of}
+use Rattle.bisync_run.proofs.BasesSetBack.{late_closed, old_closed}
 use Rattle.bisync_run.proofs.BlockedFolders.{blocked_nowhere}
 use Rattle.bisync_run.proofs.BeginningLaws.{begins_before, begins_closed, well_before}
 use Rattle.bisync_run.proofs.AnswersBefore.{none_before, answers_before}
@@ -18,11 +20,13 @@ use Rattle.bisync_run.proofs.CoursesBefore.{run_answers_before, unrefused_before
 use Rattle.bisync_run.proofs.DoneSteps.{untouched_same}
 use Rattle.bisync_run.proofs.EndCases.{false_true, good_is_after_good}
 use Rattle.bisync_run.proofs.EndKindLaws.{unlocked_is_own, unlocked_not_after_good, unlocked_fell, freed_is_after_good}
+use Rattle.bisync_run.proofs.FallsAsLaws.{where_it_falls}
 use Rattle.bisync_run.proofs.FolderBases.{folder_base_closed, folder_base_unlocked, folder_next_closed}
 use Rattle.bisync_run.proofs.LockNewLaws.{lock_new_twice, lock_new_same}
 use Rattle.bisync_run.proofs.LockedFolders.{base_past}
 use Rattle.bisync_run.proofs.OrdinaryClosed.{base_kept, falls_resilient, rest_closed, rest_locked, run_base_closed, run_done_closed, way_before}
 use Rattle.bisync_run.proofs.OrdinaryEndsClosed.{good_before, ordinary_closed, run_answers_closed, run_tells_closed, tells_unlocked, unlocked_is_ordinary}
+use Rattle.bisync_run.proofs.OwnLocks.{own_closed as own_lock_closed}
 use Rattle.bisync_run.proofs.RunEnds.{after_good_was_ok}
 use Rattle.bisync_run.proofs.ToldGrounds.{unlocked_told, closed_told}
 use Rattle.bisync_run.proofs.CloseLaws.{fell_before}
@@ -82,12 +86,8 @@ returns-in-Err-clause-lines g c sink = ([], sym (append-nil (g.S.Sink.state c.ar
 
 pub returns-clause-answers : goal.returns-clause-answers
 returns-clause-answers g c mode mode_is one two work =
-    let a = g.A.Remote.state c.args.one.now in
-    let b = g.B.Remote.state c.args.two.now in
-    let s = sides_of c.args.opts.now.compare c.in-Ok.entered.rules a b in
-    let f = (g.W.Work.state c.args.work.now).folder in
-    let f2 = (g.W.Work.state c.enter.new.work).folder in
-    let changes = c.in-Ok.ensures.others work in
+    let a = g.A.Remote.state c.args.one.now in let b = g.B.Remote.state c.args.two.now in let s = sides_of c.args.opts.now.compare c.in-Ok.entered.rules a b in
+    let f = (g.W.Work.state c.args.work.now).folder in let f2 = (g.W.Work.state c.enter.new.work).folder in let changes = c.in-Ok.ensures.others work in
     let m : Matter c.args.opts.now f (by_side a b) = record { rules = c.in-Ok.entered.rules; digest = c.in-Ok.entered.digest; are = c.in-Ok.ensures.rules work } in
     inr (
       c.in-Ok.ensures.free work,
@@ -101,15 +101,13 @@ returns-clause-answers g c mode mode_is one two work =
 
 pub returns-clause-accepted : goal.returns-clause-accepted
 returns-clause-accepted g c mode mode_is one two work good =
-    let f = (g.W.Work.state c.args.work.now).folder in
-    let m : Matter c.args.opts.now f _ = record { rules = c.in-Ok.entered.rules; digest = c.in-Ok.entered.digest; are = c.in-Ok.ensures.rules work } in
+    let f = (g.W.Work.state c.args.work.now).folder in let m : Matter c.args.opts.now f _ = record { rules = c.in-Ok.entered.rules; digest = c.in-Ok.entered.digest; are = c.in-Ok.ensures.rules work } in
     let ok = after_good_was_ok _ _ c.held-ended.result c.close.result c.held-ended.ensures.causes.fault c.close.ensures.end good in
     (c.in-Ok.ensures.free work, (m, none_before mode c.args.limits.now f _ (c.in-Ok.ensures.others work) _ (on_ok c.held-ended.result ok (c.held-ended.ensures.accepted mode mode_is one two work))))
 
 pub returns-clause-resynced : goal.returns-clause-resynced
 returns-clause-resynced g c mode mode_is one two work dry good =
-    let f = (g.W.Work.state c.args.work.now).folder in
-    let m : Matter c.args.opts.now f _ = record { rules = c.in-Ok.entered.rules; digest = c.in-Ok.entered.digest; are = c.in-Ok.ensures.rules work } in
+    let f = (g.W.Work.state c.args.work.now).folder in let m : Matter c.args.opts.now f _ = record { rules = c.in-Ok.entered.rules; digest = c.in-Ok.entered.digest; are = c.in-Ok.ensures.rules work } in
     let ok = after_good_was_ok _ _ c.held-ended.result c.close.result c.held-ended.ensures.causes.fault c.close.ensures.end good in (
       m,
       done_unlocked mode c.args.limits.now _ _ _ c.in-Ok.entered.digest f _ _ (c.in-Ok.ensures.others work)
@@ -120,25 +118,20 @@ returns-clause-resynced g c mode mode_is one two work dry good =
 
 pub returns-clause-numbers : goal.returns-clause-numbers
 returns-clause-numbers g c mode mode_is one two work good =
-    let a = g.A.Remote.state c.args.one.now in
-    let b = g.B.Remote.state c.args.two.now in
-    let s = sides_of c.args.opts.now.compare c.in-Ok.entered.rules a b in
-    let f = (g.W.Work.state c.args.work.now).folder in
-    let m : Matter c.args.opts.now f (by_side a b) = record { rules = c.in-Ok.entered.rules; digest = c.in-Ok.entered.digest; are = c.in-Ok.ensures.rules work } in
+    let a = g.A.Remote.state c.args.one.now in let b = g.B.Remote.state c.args.two.now in let s = sides_of c.args.opts.now.compare c.in-Ok.entered.rules a b in
+    let f = (g.W.Work.state c.args.work.now).folder in let m : Matter c.args.opts.now f (by_side a b) = record { rules = c.in-Ok.entered.rules; digest = c.in-Ok.entered.digest; are = c.in-Ok.ensures.rules work } in
     (m, numbers_closed (IsGoodEndOf c.args.opts.now.dry_run mode s) _ _ c.held-ended.result c.close.result c.held-ended.ensures.causes.fault c.close.ensures.end (c.held-ended.ensures.good mode mode_is one two) good)
 
 pub returns-clause-base : goal.returns-clause-base
 returns-clause-base g c mode mode_is one two work base is =
-    let f = (g.W.Work.state c.args.work.now).folder in
-    let m : Matter c.args.opts.now f _ = record { rules = c.in-Ok.entered.rules; digest = c.in-Ok.entered.digest; are = c.in-Ok.ensures.rules work } in
+    let f = (g.W.Work.state c.args.work.now).folder in let m : Matter c.args.opts.now f _ = record { rules = c.in-Ok.entered.rules; digest = c.in-Ok.entered.digest; are = c.in-Ok.ensures.rules work } in
     ⊎_elim inl (λ other. inr (⊎_elim inl (λ made. inr (m, made)) other))
     (base_unlocked mode c.args.limits.now _ _ _ f _ _ (c.in-Ok.ensures.others work)
     (base_closed mode c.args.limits.now _ _ _ _ _ _ (c.held-ended.ensures.base mode mode_is one two work) (c.close.ensures.closes work)) base is)
 
 pub returns-clause-trees : goal.returns-clause-trees
 returns-clause-trees g c mode mode_is one two work =
-    let f = (g.W.Work.state c.args.work.now).folder in
-    let m : Matter c.args.opts.now f _ = record { rules = c.in-Ok.entered.rules; digest = c.in-Ok.entered.digest; are = c.in-Ok.ensures.rules work } in
+    let f = (g.W.Work.state c.args.work.now).folder in let m : Matter c.args.opts.now f _ = record { rules = c.in-Ok.entered.rules; digest = c.in-Ok.entered.digest; are = c.in-Ok.ensures.rules work } in
     ⊎_elim inl (λ some. inr (c.in-Ok.ensures.free work, (m, inr (none_before mode c.args.limits.now f _ (c.in-Ok.ensures.others work) _ some.0, some.1))))
     (c.held-ended.ensures.trees mode mode_is one two work)
 
@@ -156,11 +149,8 @@ returns-clause-dry g c work dry =
 
 pub returns-clause-set_aside : goal.returns-clause-set_aside
 returns-clause-set_aside g c mode mode_is work dry good =
-    let f = (g.W.Work.state c.args.work.now).folder in
-    let f2 = (g.W.Work.state c.enter.new.work).folder in
-    let mid = (g.W.Work.state c.held-ended.new.work).folder in
-    let h = (g.W.Work.state c.close.new.work).folder in
-    let ok = after_good_was_ok _ _ c.held-ended.result c.close.result c.held-ended.ensures.causes.fault c.close.ensures.end good in
+    let f = (g.W.Work.state c.args.work.now).folder in let f2 = (g.W.Work.state c.enter.new.work).folder in let mid = (g.W.Work.state c.held-ended.new.work).folder in
+    let h = (g.W.Work.state c.close.new.work).folder in let ok = after_good_was_ok _ _ c.held-ended.result c.close.result c.held-ended.ensures.causes.fault c.close.ensures.end good in
     aside_closed c.args.opts.now c.in-Ok.entered.rules c.in-Ok.entered.digest f f2 mid h (c.in-Ok.ensures.rules work) (c.in-Ok.ensures.others work)
     (on_ok c.held-ended.result ok (c.held-ended.ensures.set_aside mode mode_is work dry)) (c.close.ensures.kept work (falls_ok c.args.opts.now.resilient c.args.opts.now.dry_run c.held-ended.result ok))
 
@@ -188,9 +178,7 @@ returns-clause-freed g c work freed =
 
 pub returns-clause-lock_new : goal.returns-clause-lock_new
 returns-clause-lock_new g c work sure =
-    let a = (g.W.Work.state c.args.work.now).faults in
-    let b = (g.W.Work.state c.enter.new.work).faults in
-    let m = (g.W.Work.state c.held-ended.new.work).faults in
+    let a = (g.W.Work.state c.args.work.now).faults in let b = (g.W.Work.state c.enter.new.work).faults in let m = (g.W.Work.state c.held-ended.new.work).faults in
     let z = (g.W.Work.state c.close.new.work).faults in
     let still = ⊎_elim (λ good. inl (after_good_was_ok _ _ c.held-ended.result c.close.result c.held-ended.ensures.causes.fault c.close.ensures.end good))
     (λ never. inr (no_rise_mid a b m z never c.in-Ok.ensures.causes.later.work c.close.ensures.later)) sure in
@@ -222,10 +210,8 @@ returns-clause-built g c = closed_built _ _ c.held-ended.result c.close.result c
 
 pub returns-clause-report : goal.returns-clause-report
 returns-clause-report g c mode mode_is one two sink work =
-    let a = g.A.Remote.state c.args.one.now in
-    let b = g.B.Remote.state c.args.two.now in
-    let f = (g.W.Work.state c.args.work.now).folder in
-    let m : Matter c.args.opts.now f (by_side a b) = record { rules = c.in-Ok.entered.rules; digest = c.in-Ok.entered.digest; are = c.in-Ok.ensures.rules work } in
+    let a = g.A.Remote.state c.args.one.now in let b = g.B.Remote.state c.args.two.now in
+    let f = (g.W.Work.state c.args.work.now).folder in let m : Matter c.args.opts.now f (by_side a b) = record { rules = c.in-Ok.entered.rules; digest = c.in-Ok.entered.digest; are = c.in-Ok.ensures.rules work } in
     tells_closed mode c.args.opts.now f (by_side a b) (by_side (g.A.Remote.state c.held-ended.new.one) (g.B.Remote.state c.held-ended.new.two)) m
     (g.S.Sink.state c.args.sink.now).bytes (g.S.Sink.state c.held-ended.new.sink).bytes _ _ c.held-ended.result c.close.result
     c.held-ended.ensures.well c.held-ended.ensures.causes.fault c.close.ensures.end (c.held-ended.ensures.report mode mode_is one two sink)
@@ -270,12 +256,9 @@ returns-in-Err-clause-run_report g c none one two work sink =
 
 pub returns-clause-run_answers : goal.returns-clause-run_answers
 returns-clause-run_answers g c none one two work =
-    let a = g.A.Remote.state c.args.one.now in
-    let b = g.B.Remote.state c.args.two.now in
-    let f = (g.W.Work.state c.args.work.now).folder in
-    let m : Matter c.args.opts.now f (by_side a b) = record { rules = c.in-Ok.entered.rules; digest = c.in-Ok.entered.digest; are = c.in-Ok.ensures.rules work } in
-    let s = sides_of c.args.opts.now.compare c.in-Ok.entered.rules a b in
-    let f2 = (g.W.Work.state c.enter.new.work).folder in
+    let a = g.A.Remote.state c.args.one.now in let b = g.B.Remote.state c.args.two.now in
+    let f = (g.W.Work.state c.args.work.now).folder in let m : Matter c.args.opts.now f (by_side a b) = record { rules = c.in-Ok.entered.rules; digest = c.in-Ok.entered.digest; are = c.in-Ok.ensures.rules work } in
+    let s = sides_of c.args.opts.now.compare c.in-Ok.entered.rules a b in let f2 = (g.W.Work.state c.enter.new.work).folder in
     inr (
       c.in-Ok.ensures.free work,
       (
@@ -288,8 +271,7 @@ returns-clause-run_answers g c none one two work =
 
 pub returns-clause-unrefused : goal.returns-clause-unrefused
 returns-clause-unrefused g c none one two work good =
-    let f = (g.W.Work.state c.args.work.now).folder in
-    let m : Matter c.args.opts.now f _ = record { rules = c.in-Ok.entered.rules; digest = c.in-Ok.entered.digest; are = c.in-Ok.ensures.rules work } in
+    let f = (g.W.Work.state c.args.work.now).folder in let m : Matter c.args.opts.now f _ = record { rules = c.in-Ok.entered.rules; digest = c.in-Ok.entered.digest; are = c.in-Ok.ensures.rules work } in
     let ok = after_good_was_ok _ _ c.held-ended.result c.close.result c.held-ended.ensures.causes.fault c.close.ensures.end good in (
       c.in-Ok.ensures.free work,
       (m, unrefused_before c.args.opts.now c.args.limits.now f _ (c.in-Ok.ensures.others work) _ _ (on_ok c.held-ended.result ok (c.held-ended.ensures.unrefused none one two work))),
@@ -297,8 +279,7 @@ returns-clause-unrefused g c none one two work good =
 
 pub returns-clause-done : goal.returns-clause-done
 returns-clause-done g c none one two work dry only good =
-    let f = (g.W.Work.state c.args.work.now).folder in
-    let m : Matter c.args.opts.now f _ = record { rules = c.in-Ok.entered.rules; digest = c.in-Ok.entered.digest; are = c.in-Ok.ensures.rules work } in
+    let f = (g.W.Work.state c.args.work.now).folder in let m : Matter c.args.opts.now f _ = record { rules = c.in-Ok.entered.rules; digest = c.in-Ok.entered.digest; are = c.in-Ok.ensures.rules work } in
     let ok = after_good_was_ok _ _ c.held-ended.result c.close.result c.held-ended.ensures.causes.fault c.close.ensures.end good in (
       m,
       run_done_closed c.args.opts.now c.args.limits.now _ c.in-Ok.entered.digest _ _ f _ _ _ (c.in-Ok.ensures.others work)
@@ -308,10 +289,8 @@ returns-clause-done g c none one two work dry only good =
 
 pub returns-clause-run_numbers : goal.returns-clause-run_numbers
 returns-clause-run_numbers g c none one two work good =
-    let a = g.A.Remote.state c.args.one.now in
-    let b = g.B.Remote.state c.args.two.now in
-    let f = (g.W.Work.state c.args.work.now).folder in
-    let m : Matter c.args.opts.now f (by_side a b) = record { rules = c.in-Ok.entered.rules; digest = c.in-Ok.entered.digest; are = c.in-Ok.ensures.rules work } in
+    let a = g.A.Remote.state c.args.one.now in let b = g.B.Remote.state c.args.two.now in
+    let f = (g.W.Work.state c.args.work.now).folder in let m : Matter c.args.opts.now f (by_side a b) = record { rules = c.in-Ok.entered.rules; digest = c.in-Ok.entered.digest; are = c.in-Ok.ensures.rules work } in
     let s = sides_of c.args.opts.now.compare c.in-Ok.entered.rules a b in
     let f2 = (g.W.Work.state c.enter.new.work).folder in (
       m,
@@ -322,24 +301,21 @@ returns-clause-run_numbers g c none one two work good =
 
 pub returns-clause-run_base : goal.returns-clause-run_base
 returns-clause-run_base g c none one two work base is =
-    let f = (g.W.Work.state c.args.work.now).folder in
-    let m : Matter c.args.opts.now f _ = record { rules = c.in-Ok.entered.rules; digest = c.in-Ok.entered.digest; are = c.in-Ok.ensures.rules work } in
+    let f = (g.W.Work.state c.args.work.now).folder in let m : Matter c.args.opts.now f _ = record { rules = c.in-Ok.entered.rules; digest = c.in-Ok.entered.digest; are = c.in-Ok.ensures.rules work } in
     ⊎_elim inl (λ other. inr (⊎_elim inl (λ made. inr (m, made)) other))
     (run_base_closed c.args.opts.now c.args.limits.now _ c.in-Ok.entered.digest _ f _ _ _ (c.in-Ok.ensures.others work)
     (c.held-ended.ensures.run_base none one two work) (c.close.ensures.closes work) base is)
 
 pub returns-clause-resilient_base : goal.returns-clause-resilient_base
 returns-clause-resilient_base g c none one two work stays base is =
-    let f = (g.W.Work.state c.args.work.now).folder in
-    let m : Matter c.args.opts.now f _ = record { rules = c.in-Ok.entered.rules; digest = c.in-Ok.entered.digest; are = c.in-Ok.ensures.rules work } in
+    let f = (g.W.Work.state c.args.work.now).folder in let m : Matter c.args.opts.now f _ = record { rules = c.in-Ok.entered.rules; digest = c.in-Ok.entered.digest; are = c.in-Ok.ensures.rules work } in
     ⊎_elim inl (λ made. inr (m, made))
     (base_kept c.args.opts.now c.args.limits.now _ c.in-Ok.entered.digest _ f _ _ _ (c.in-Ok.ensures.others work) (c.held-ended.ensures.run_base none one two work)
     (c.close.ensures.kept work (falls_resilient c.args.opts.now.resilient c.args.opts.now.dry_run c.held-ended.result stays)) base is)
 
 pub returns-clause-run_trees : goal.returns-clause-run_trees
 returns-clause-run_trees g c none one two work =
-    let f = (g.W.Work.state c.args.work.now).folder in
-    let m : Matter c.args.opts.now f _ = record { rules = c.in-Ok.entered.rules; digest = c.in-Ok.entered.digest; are = c.in-Ok.ensures.rules work } in
+    let f = (g.W.Work.state c.args.work.now).folder in let m : Matter c.args.opts.now f _ = record { rules = c.in-Ok.entered.rules; digest = c.in-Ok.entered.digest; are = c.in-Ok.ensures.rules work } in
     ⊎_elim inl
     (λ way. inr (c.in-Ok.ensures.free work, (m, way_before c.args.opts.now c.args.limits.now _ c.in-Ok.entered.digest _ f _ (c.in-Ok.ensures.others work) way)))
     (c.held-ended.ensures.run_trees none one two work)
@@ -354,21 +330,19 @@ returns-clause-only_run g c none = ordinary_closed c.args.opts.now _ c.held-ende
 
 pub returns-clause-run_report : goal.returns-clause-run_report
 returns-clause-run_report g c none one two work sink =
-    let f = (g.W.Work.state c.args.work.now).folder in
-    let m : Matter c.args.opts.now f _ = record { rules = c.in-Ok.entered.rules; digest = c.in-Ok.entered.digest; are = c.in-Ok.ensures.rules work } in
+    let f = (g.W.Work.state c.args.work.now).folder in let m : Matter c.args.opts.now f _ = record { rules = c.in-Ok.entered.rules; digest = c.in-Ok.entered.digest; are = c.in-Ok.ensures.rules work } in
     run_tells_closed c.args.opts.now c.args.limits.now f _ (c.in-Ok.ensures.others work) _ _ m
     (g.S.Sink.state c.args.sink.now).bytes (g.S.Sink.state c.held-ended.new.sink).bytes _ _ c.held-ended.result c.close.result
     c.held-ended.ensures.well c.held-ended.ensures.causes.fault c.close.ensures.end (c.held-ended.ensures.run_report none one two work sink)
 
 pub returns-in-Err-clause-only_base : goal.returns-in-Err-clause-only_base
-returns-in-Err-clause-only_base g c none only work good = absurd (unlocked_not_after_good c.args.opts.now.filters c.in-Err.end c.in-Err.ensures.kind good)
+returns-in-Err-clause-only_base g c none only work stays = c.in-Err.ensures.others work
 
 pub returns-clause-only_base : goal.returns-clause-only_base
-returns-clause-only_base g c none only work good =
-    let ok = after_good_was_ok _ _ c.held-ended.result c.close.result c.held-ended.ensures.causes.fault c.close.ensures.end good in
+returns-clause-only_base g c none only work stays =
     changes_closed (g.W.Work.state c.args.work.now).folder (g.W.Work.state c.enter.new.work).folder (g.W.Work.state c.held-ended.new.work).folder (g.W.Work.state c.close.new.work).folder
     (c.in-Ok.ensures.others work) (c.held-ended.ensures.compares none only work)
-    (c.close.ensures.kept work (falls_ok c.args.opts.now.resilient c.args.opts.now.dry_run c.held-ended.result ok))
+    (c.close.ensures.kept work (falls_closed c.args.opts.now.resilient c.args.opts.now.dry_run c.held-ended.result c.close.result c.close.ensures.end stays))
 
 pub returns-clause-blocked : goal.returns-clause-blocked
 returns-clause-blocked g c work = blocked_nowhere (g.W.Work.state c.args.work.now).folder _ _ _ (c.in-Ok.ensures.free work)
@@ -380,15 +354,16 @@ pub returns-clause-entered : goal.returns-clause-entered
 returns-clause-entered g c work later = (c.in-Ok.ensures.free work, (c.in-Ok.entered.rules, c.in-Ok.entered.digest, c.in-Ok.ensures.rules work))
 
 pub returns-in-Err-clause-fell : goal.returns-in-Err-clause-fell
-returns-in-Err-clause-fell g c work early fell never =
+returns-in-Err-clause-fell g c work fell never =
     absurd (never (unlocked_fell c.args.opts.now.filters (counts 0 0 (g.W.Work.state c.args.work.now).faults 0) (counts 0 0 (g.W.Work.state c.enter.new.work).faults 0)
     c.args.opts.now.resilient c.args.opts.now.dry_run c.in-Err.end c.in-Err.ensures.kind c.in-Err.ensures.causes.fault fell))
 
 pub returns-clause-fell : goal.returns-clause-fell
-returns-clause-fell g c work early fell never =
-    fell_before _ _ (g.W.Work.state c.held-ended.new.work).folder _ (c.in-Ok.ensures.others work) (c.held-ended.ensures.early (early_closed c.held-ended.result c.close.result c.close.ensures.end early) work)
-    (c.close.ensures.fell work (fell_closed c.args.opts.now.resilient c.args.opts.now.dry_run c.held-ended.result c.close.result c.held-ended.ensures.well c.close.ensures.end fell)
-    (no_rise_last _ (g.W.Work.state c.enter.new.work).faults (g.W.Work.state c.held-ended.new.work).faults _ never c.in-Ok.ensures.causes.later.work c.held-ended.ensures.causes.later.work))
+returns-clause-fell g c work fell never =
+    let falls = fell_closed c.args.opts.now.resilient c.args.opts.now.dry_run c.held-ended.result c.close.result c.held-ended.ensures.well c.close.ensures.end fell in
+    let still = no_rise_mid _ (g.W.Work.state c.enter.new.work).faults (g.W.Work.state c.held-ended.new.work).faults _ never c.in-Ok.ensures.causes.later.work c.close.ensures.later in
+    fell_before _ _ (g.W.Work.state c.held-ended.new.work).folder _ (c.in-Ok.ensures.others work) (where_it_falls c.args.opts.now.resilient c.args.opts.now.dry_run c.held-ended.result falls (c.held-ended.ensures.falls_as work still))
+    (c.close.ensures.fell work falls (no_rise_last _ (g.W.Work.state c.enter.new.work).faults (g.W.Work.state c.held-ended.new.work).faults _ never c.in-Ok.ensures.causes.later.work c.held-ended.ensures.causes.later.work))
 
 -- # What the work folder alone tells
 
@@ -400,8 +375,7 @@ returns-in-Err-clause-begun g c none work good = absurd (unlocked_not_after_good
 
 pub returns-clause-begins : goal.returns-clause-begins
 returns-clause-begins g c none work =
-    let f = (g.W.Work.state c.args.work.now).folder in
-    let f2 = (g.W.Work.state c.enter.new.work).folder in
+    let f = (g.W.Work.state c.args.work.now).folder in let f2 = (g.W.Work.state c.enter.new.work).folder in
     let s = sides_of c.args.opts.now.compare c.in-Ok.entered.rules (g.A.Remote.state c.args.one.now) (g.B.Remote.state c.args.two.now) in
     let m : Matter c.args.opts.now f _ = record { rules = c.in-Ok.entered.rules; digest = c.in-Ok.entered.digest; are = c.in-Ok.ensures.rules work } in
     inr (
@@ -416,8 +390,7 @@ returns-clause-begins g c none work =
 
 pub returns-clause-begun : goal.returns-clause-begun
 returns-clause-begun g c none work good =
-    let f = (g.W.Work.state c.args.work.now).folder in
-    let f2 = (g.W.Work.state c.enter.new.work).folder in
+    let f = (g.W.Work.state c.args.work.now).folder in let f2 = (g.W.Work.state c.enter.new.work).folder in
     let s = sides_of c.args.opts.now.compare c.in-Ok.entered.rules (g.A.Remote.state c.args.one.now) (g.B.Remote.state c.args.two.now) in
     let m : Matter c.args.opts.now f _ = record { rules = c.in-Ok.entered.rules; digest = c.in-Ok.entered.digest; are = c.in-Ok.ensures.rules work } in
     let ok = after_good_was_ok _ _ c.held-ended.result c.close.result c.held-ended.ensures.causes.fault c.close.ensures.end good in (
@@ -434,8 +407,7 @@ returns-in-Err-clause-folder_next g c work writes good = absurd (unlocked_not_af
 
 pub returns-clause-folder_base : goal.returns-clause-folder_base
 returns-clause-folder_base g c work =
-    let f = (g.W.Work.state c.args.work.now).folder in
-    let start = by_side (g.A.Remote.state c.args.one.now) (g.B.Remote.state c.args.two.now) in
+    let f = (g.W.Work.state c.args.work.now).folder in let start = by_side (g.A.Remote.state c.args.one.now) (g.B.Remote.state c.args.two.now) in
     let m : Matter c.args.opts.now f start = record { rules = c.in-Ok.entered.rules; digest = c.in-Ok.entered.digest; are = c.in-Ok.ensures.rules work } in
     folder_base_closed c.args.opts.now c.args.limits.now start f (g.W.Work.state c.enter.new.work).folder (g.W.Work.state c.held-ended.new.work).folder (g.W.Work.state c.close.new.work).folder
     (c.in-Ok.ensures.others work) m c.held-ended.result c.close.result c.close.ensures.end (c.held-ended.ensures.folder_base work) (c.close.ensures.closes work) (c.close.ensures.kept work)
@@ -446,3 +418,32 @@ returns-clause-folder_next g c work writes good =
     folder_next_closed c.args.opts.now c.args.limits.now (by_side (g.A.Remote.state c.args.one.now) (g.B.Remote.state c.args.two.now)) (g.W.Work.state c.args.work.now).folder (g.W.Work.state c.enter.new.work).folder
     (g.W.Work.state c.held-ended.new.work).folder (g.W.Work.state c.close.new.work).folder (c.in-Ok.ensures.others work)
     (c.close.ensures.kept work (falls_ok c.args.opts.now.resilient c.args.opts.now.dry_run c.held-ended.result ok)) (on_ok c.held-ended.result ok (c.held-ended.ensures.folder_next work writes))
+
+-- # What is left of some names
+
+pub returns-in-Err-clause-own_lock : goal.returns-in-Err-clause-own_lock
+returns-in-Err-clause-own_lock g c work = inr (inr (c.in-Err.ensures.only, c.in-Err.ensures.makes_lock work))
+
+pub returns-clause-own_lock : goal.returns-clause-own_lock
+returns-clause-own_lock g c work = own_lock_closed _ _ _ _ c.close.result _ _ _ _ c.in-Ok.ensures.moment (c.in-Ok.ensures.own_lock work) (c.held-ended.ensures.own_lock work) (c.close.ensures.closes work).lock
+
+pub returns-in-Err-clause-digest_late : goal.returns-in-Err-clause-digest_late
+returns-in-Err-clause-digest_late g c work = inl (ap (λ (w : WorkFolder). w.filters_md5) (c.in-Err.ensures.others work).rest)
+
+pub returns-clause-digest_late : goal.returns-clause-digest_late
+returns-clause-digest_late g c work =
+    late_closed c.args.limits.now _ (g.W.Work.state c.args.work.now).folder (g.W.Work.state c.enter.new.work).folder (g.W.Work.state c.held-ended.new.work).folder (g.W.Work.state c.close.new.work).folder (c.in-Ok.ensures.others work) (c.close.ensures.closes work) (c.held-ended.ensures.digest_late work)
+
+pub returns-in-Err-clause-set_back : goal.returns-in-Err-clause-set_back
+returns-in-Err-clause-set_back g c none one two work before is = inl (untouched_same (by_side (g.A.Remote.state c.args.one.now) (g.B.Remote.state c.args.two.now)))
+
+pub returns-clause-set_back : goal.returns-clause-set_back
+returns-clause-set_back g c none one two work =
+    old_closed c.args.limits.now _ (g.W.Work.state c.args.work.now).folder (g.W.Work.state c.enter.new.work).folder (g.W.Work.state c.held-ended.new.work).folder (g.W.Work.state c.close.new.work).folder (c.in-Ok.ensures.others work) (c.close.ensures.closes work) (by_side (g.A.Remote.state c.args.one.now) (g.B.Remote.state c.args.two.now)) (by_side (g.A.Remote.state c.held-ended.new.one) (g.B.Remote.state c.held-ended.new.two))
+    (c.held-ended.ensures.set_back none one two work)
+
+pub returns-in-Err-clause-unlocked : goal.returns-in-Err-clause-unlocked
+returns-in-Err-clause-unlocked g c work un = c.in-Err.ensures.kept work (λ is. false_true (sym (ap is_unlocked is) ∙ un))
+
+pub returns-clause-unlocked : goal.returns-clause-unlocked
+returns-clause-unlocked g c work un = absurd (locked_closed c.held-ended.result c.close.result c.close.ensures.end c.held-ended.ensures.only un)

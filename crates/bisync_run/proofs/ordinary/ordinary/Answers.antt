@@ -1,4 +1,4 @@
-use Rattle.std.proofs.Common.{◌<◌, ◌^◌, ◌∙◌, refl, sym, subst, inl, inr, arith}
+use Rattle.std.proofs.Common.{◌<◌, ◌^◌, ◌∙◌, ap, refl, sym, subst, inl, inr, arith}
 use Rattle.bisync_device.specs.WorkFolder.{IsSettled, WorkFolder}
 use Rattle.bisync_model.specs.Trees.{by_side}
 use Rattle.bisync_report.specs.declared.ends.End.TheVariants.{Done, DryRun, OutOfMemory}
@@ -6,14 +6,17 @@ use Rattle.bisync_run.specs.Counts.{counts}
 use Rattle.bisync_run.specs.LockNew.{KeepsLockNew}
 use Rattle.bisync_run.specs.Sides.{compare_in, sides_of}
 use Rattle.bisync_run.proofs.BeginningLaws.{begun_by, compared_begins, compared_begun, look_begins, start_begins, step_begins}
+use Rattle.bisync_run.proofs.BasesSetBack.{ordinary_set_back, untouched_set_back}
 use Rattle.bisync_run.proofs.CauseLaws.{fails}
 use Rattle.bisync_run.proofs.DoneSteps.{looked_told}
 use Rattle.bisync_run.proofs.EndCases.{false_true, step_may_change, told_device}
+use Rattle.bisync_run.proofs.FallsAsLaws.{falls_as_held}
 use Rattle.bisync_run.proofs.FolderBases.{kept_or_next, next_in_place, ready_to}
 use Rattle.bisync_run.proofs.HeldLaws.{untouched, same_windows, are_within}
 use Rattle.bisync_run.proofs.OrdinaryCauses.{done_same, lock_new_held, since, stopped, sunk, told_same, unsunk, well, work_same}
 use Rattle.bisync_run.proofs.OrdinaryEndCases.{compared_causes, compared_tells, device_answers, not_only, only_is, start_answers, step_kind}
 use Rattle.bisync_run.proofs.OrdinaryHeld.{base_held, done_held, numbers_held, planned_finds, prepared_held, prepared_of, told_held, trees_held}
+use Rattle.bisync_run.proofs.OwnLocks.{own_around}
 use Rattle.bisync_run.proofs.ToldGrounds.{step_told}
 use Rattle.bisync_run.proofs.ordinary.ordinary.Goals as goal
 
@@ -32,35 +35,21 @@ returns-then-is_only-clause-report g c one two work sink =
 
 pub returns-then-is_only-clause-causes : goal.returns-then-is_only-clause-causes
 returns-then-is_only-clause-causes g c =
-    let a = (g.A.Remote.state c.args.one.now).faults in
-    let b = (g.B.Remote.state c.args.two.now).faults in
-    let w = (g.W.Work.state c.args.work.now).faults in
-    let s = (g.S.Sink.state c.args.sink.now).faults in
-    let w2 = (g.W.Work.state c.start.new.work).faults in
-    let started = (c.in-Ok.ensures.causes a b s).good refl in
+    let a = (g.A.Remote.state c.args.one.now).faults in let b = (g.B.Remote.state c.args.two.now).faults in let w = (g.W.Work.state c.args.work.now).faults in let s = (g.S.Sink.state c.args.sink.now).faults in
+    let w2 = (g.W.Work.state c.start.new.work).faults in let started = (c.in-Ok.ensures.causes a b s).good refl in
     since (counts a b w s) (counts a b w2 s) (counts a b w2 s) c.compare_base.result started (compared_causes (compare_in c.args.opts.now.compare (g.A.Remote.state c.args.one.now).window (g.B.Remote.state c.args.two.now).window) c.in-Ok.started.one c.in-Ok.started.two (counts a b w2 s) c.compare_base.result c.compare_base.ensures)
 
 pub returns-in-Err-look_ordinary-clause-causes : goal.returns-in-Err-look_ordinary-clause-causes
 returns-in-Err-look_ordinary-clause-causes g c =
-    let a = (g.A.Remote.state c.args.one.now).faults in
-    let b = (g.B.Remote.state c.args.two.now).faults in
-    let w = (g.W.Work.state c.args.work.now).faults in
-    let s = (g.S.Sink.state c.args.sink.now).faults in
-    let w2 = (g.W.Work.state c.start.new.work).faults in
-    let started = (c.in-Ok.ensures.causes a b s).good refl in
+    let a = (g.A.Remote.state c.args.one.now).faults in let b = (g.B.Remote.state c.args.two.now).faults in let w = (g.W.Work.state c.args.work.now).faults in let s = (g.S.Sink.state c.args.sink.now).faults in
+    let w2 = (g.W.Work.state c.start.new.work).faults in let started = (c.in-Ok.ensures.causes a b s).good refl in
     since (counts a b w s) (counts a b w2 s) _ _ started (fails _ _ c.in-Err-look_ordinary.end (c.in-Err-look_ordinary.ensures.causes w2 s))
 
 pub returns-in_default-clause-causes : goal.returns-in_default-clause-causes
 returns-in_default-clause-causes g c =
-    let a = (g.A.Remote.state c.args.one.now).faults in
-    let b = (g.B.Remote.state c.args.two.now).faults in
-    let w = (g.W.Work.state c.args.work.now).faults in
-    let s = (g.S.Sink.state c.args.sink.now).faults in
-    let a2 = (g.A.Remote.state c.look_ordinary.new.one).faults in
-    let b2 = (g.B.Remote.state c.look_ordinary.new.two).faults in
-    let w2 = (g.W.Work.state c.start.new.work).faults in
-    let started = (c.in-Ok.ensures.causes a b s).good refl in
-    let looked = (c.in-Ok-look_ordinary.ensures.causes w2 s).good refl in
+    let a = (g.A.Remote.state c.args.one.now).faults in let b = (g.B.Remote.state c.args.two.now).faults in let w = (g.W.Work.state c.args.work.now).faults in let s = (g.S.Sink.state c.args.sink.now).faults in
+    let a2 = (g.A.Remote.state c.look_ordinary.new.one).faults in let b2 = (g.B.Remote.state c.look_ordinary.new.two).faults in let w2 = (g.W.Work.state c.start.new.work).faults in
+    let started = (c.in-Ok.ensures.causes a b s).good refl in let looked = (c.in-Ok-look_ordinary.ensures.causes w2 s).good refl in
     since (counts a b w s) (counts a2 b2 w2 s) _ _ (looked ∙ started) (stopped (counts a2 b2 w2 s) OutOfMemory tt)
 
 pub returns-in-Err-plan_lines-clause-trees : goal.returns-in-Err-plan_lines-clause-trees
@@ -69,74 +58,51 @@ returns-in-Err-plan_lines-clause-trees g c one two work =
 
 pub returns-in-Err-plan_lines-clause-answers : goal.returns-in-Err-plan_lines-clause-answers
 returns-in-Err-plan_lines-clause-answers g c one two work =
-    let f = (g.W.Work.state c.args.work.now).folder in
-    let more = not_only c.args.opts.now.check_sync (sym c.is_only.ensures ∙ c.if-is_only.false) in
+    let f = (g.W.Work.state c.args.work.now).folder in let more = not_only c.args.opts.now.check_sync (sym c.is_only.ensures ∙ c.if-is_only.false) in
     let look = c.in-Ok-look_ordinary.ensures.look one two f c.args.entered.now.digest (c.in-Ok.ensures.starts work) more in
     look.course
 
 pub returns-in-Err-plan_lines-clause-causes : goal.returns-in-Err-plan_lines-clause-causes
 returns-in-Err-plan_lines-clause-causes g c =
-    let a = (g.A.Remote.state c.args.one.now).faults in
-    let b = (g.B.Remote.state c.args.two.now).faults in
-    let w = (g.W.Work.state c.args.work.now).faults in
-    let s = (g.S.Sink.state c.args.sink.now).faults in
-    let a2 = (g.A.Remote.state c.look_ordinary.new.one).faults in
-    let b2 = (g.B.Remote.state c.look_ordinary.new.two).faults in
-    let w2 = (g.W.Work.state c.start.new.work).faults in
-    let started = (c.in-Ok.ensures.causes a b s).good refl in
-    let looked = (c.in-Ok-look_ordinary.ensures.causes w2 s).good refl in
+    let a = (g.A.Remote.state c.args.one.now).faults in let b = (g.B.Remote.state c.args.two.now).faults in let w = (g.W.Work.state c.args.work.now).faults in let s = (g.S.Sink.state c.args.sink.now).faults in
+    let a2 = (g.A.Remote.state c.look_ordinary.new.one).faults in let b2 = (g.B.Remote.state c.look_ordinary.new.two).faults in let w2 = (g.W.Work.state c.start.new.work).faults in
+    let started = (c.in-Ok.ensures.causes a b s).good refl in let looked = (c.in-Ok-look_ordinary.ensures.causes w2 s).good refl in
     since (counts a b w s) (counts a2 b2 w2 s) _ _ (looked ∙ started) (sunk a2 b2 w2 s (g.S.Sink.state c.plan_lines.new.sink).faults c.in-Err-plan_lines.ensures.cause)
 
 pub returns-then-opts-clause-answers : goal.returns-then-opts-clause-answers
 returns-then-opts-clause-answers g c one two work =
-    let f = (g.W.Work.state c.args.work.now).folder in
-    let more = not_only c.args.opts.now.check_sync (sym c.is_only.ensures ∙ c.if-is_only.false) in
+    let f = (g.W.Work.state c.args.work.now).folder in let more = not_only c.args.opts.now.check_sync (sym c.is_only.ensures ∙ c.if-is_only.false) in
     let look = c.in-Ok-look_ordinary.ensures.look one two f c.args.entered.now.digest (c.in-Ok.ensures.starts work) more in
     look.course
 
 pub returns-then-opts-clause-accepted : goal.returns-then-opts-clause-accepted
 returns-then-opts-clause-accepted g c one two work =
-    let f = (g.W.Work.state c.args.work.now).folder in
-    let more = not_only c.args.opts.now.check_sync (sym c.is_only.ensures ∙ c.if-is_only.false) in
+    let f = (g.W.Work.state c.args.work.now).folder in let more = not_only c.args.opts.now.check_sync (sym c.is_only.ensures ∙ c.if-is_only.false) in
     let look = c.in-Ok-look_ordinary.ensures.look one two f c.args.entered.now.digest (c.in-Ok.ensures.starts work) more in
     inl look.course
 
 pub returns-then-opts-clause-report : goal.returns-then-opts-clause-report
 returns-then-opts-clause-report g c one two work sink =
-    let a = g.A.Remote.state c.args.one.now in
-    let b = g.B.Remote.state c.args.two.now in
-    let f = (g.W.Work.state c.args.work.now).folder in
+    let a = g.A.Remote.state c.args.one.now in let b = g.B.Remote.state c.args.two.now in let f = (g.W.Work.state c.args.work.now).folder in
     let more = not_only c.args.opts.now.check_sync (sym c.is_only.ensures ∙ c.if-is_only.false) in
     let look = c.in-Ok-look_ordinary.ensures.look one two f c.args.entered.now.digest (c.in-Ok.ensures.starts work) more in
     inr (told_held c.args.opts.now c.args.limits.now c.args.entered.now.rules c.args.entered.now.digest a b f c.in-Ok.started.stamp c.in-Ok.started.pair c.in-Ok-look_ordinary.look look (g.S.Sink.state c.args.sink.now).bytes (g.S.Sink.state c.plan_lines.new.sink).bytes (c.in-Ok-plan_lines.ensures.bytes sink))
 
 pub returns-then-opts-clause-causes : goal.returns-then-opts-clause-causes
 returns-then-opts-clause-causes g c =
-    let a = (g.A.Remote.state c.args.one.now).faults in
-    let b = (g.B.Remote.state c.args.two.now).faults in
-    let w = (g.W.Work.state c.args.work.now).faults in
-    let s = (g.S.Sink.state c.args.sink.now).faults in
-    let a2 = (g.A.Remote.state c.look_ordinary.new.one).faults in
-    let b2 = (g.B.Remote.state c.look_ordinary.new.two).faults in
-    let w2 = (g.W.Work.state c.start.new.work).faults in
-    let started = (c.in-Ok.ensures.causes a b s).good refl in
-    let looked = (c.in-Ok-look_ordinary.ensures.causes w2 s).good refl in
-    let s2 = (g.S.Sink.state c.plan_lines.new.sink).faults in
+    let a = (g.A.Remote.state c.args.one.now).faults in let b = (g.B.Remote.state c.args.two.now).faults in let w = (g.W.Work.state c.args.work.now).faults in let s = (g.S.Sink.state c.args.sink.now).faults in
+    let a2 = (g.A.Remote.state c.look_ordinary.new.one).faults in let b2 = (g.B.Remote.state c.look_ordinary.new.two).faults in let w2 = (g.W.Work.state c.start.new.work).faults in
+    let started = (c.in-Ok.ensures.causes a b s).good refl in let looked = (c.in-Ok-look_ordinary.ensures.causes w2 s).good refl in let s2 = (g.S.Sink.state c.plan_lines.new.sink).faults in
     let told = told_same a b w s a2 b2 w2 s2 started looked (c.in-Ok-plan_lines.ensures.cause.kept refl) in
     well _ _ DryRun told
 
 pub returns-in-Ok-carry_out_ordinary-clause-base : goal.returns-in-Ok-carry_out_ordinary-clause-base
 returns-in-Ok-carry_out_ordinary-clause-base g c one two work =
-    let a = g.A.Remote.state c.args.one.now in
-    let b = g.B.Remote.state c.args.two.now in
-    let a2 = g.A.Remote.state c.look_ordinary.new.one in
-    let b2 = g.B.Remote.state c.look_ordinary.new.two in
+    let a = g.A.Remote.state c.args.one.now in let b = g.B.Remote.state c.args.two.now in let a2 = g.A.Remote.state c.look_ordinary.new.one in let b2 = g.B.Remote.state c.look_ordinary.new.two in
     let looked = untouched a b a2 b2 (c.in-Ok-look_ordinary.ensures.one.tree one) (c.in-Ok-look_ordinary.ensures.two.tree two) in
-    let windows = same_windows a b a2 b2 c.in-Ok-look_ordinary.ensures.one.window c.in-Ok-look_ordinary.ensures.two.window in
-    let f = (g.W.Work.state c.args.work.now).folder in
+    let windows = same_windows a b a2 b2 c.in-Ok-look_ordinary.ensures.one.window c.in-Ok-look_ordinary.ensures.two.window in let f = (g.W.Work.state c.args.work.now).folder in
     let more = not_only c.args.opts.now.check_sync (sym c.is_only.ensures ∙ c.if-is_only.false) in
-    let look = c.in-Ok-look_ordinary.ensures.look one two f c.args.entered.now.digest (c.in-Ok.ensures.starts work) more in
-    let small : c.args.limits.now.listing < 2 ^ 64 = omega arith in
+    let look = c.in-Ok-look_ordinary.ensures.look one two f c.args.entered.now.digest (c.in-Ok.ensures.starts work) more in let small : c.args.limits.now.listing < 2 ^ 64 = omega arith in
     let fits = are_within c.args.limits.now (prepared_of c.in-Ok.started.stamp c.in-Ok-look_ordinary.look) c.in-Ok-look_ordinary.ensures.within1 c.in-Ok-look_ordinary.ensures.within2 in
     let ready = prepared_held c.args.opts.now c.args.limits.now c.args.entered.now.rules c.args.entered.now.digest a b f c.in-Ok.started.stamp c.in-Ok.started.pair c.in-Ok-look_ordinary.look look a2 b2 looked windows (g.W.Work.state c.start.new.work).folder (c.in-Ok.ensures.folder work) small fits in
     base_held c.args.opts.now c.args.limits.now c.args.entered.now.rules c.args.entered.now.digest a b f c.in-Ok.started.stamp c.in-Ok.started.pair c.in-Ok-look_ordinary.look look a2 b2 looked windows (g.W.Work.state c.start.new.work).folder (c.in-Ok.ensures.folder work) (g.W.Work.state c.carry_out_ordinary.new.work).folder
@@ -145,13 +111,9 @@ returns-in-Ok-carry_out_ordinary-clause-base g c one two work =
 
 pub returns-in-Ok-carry_out_ordinary-clause-trees : goal.returns-in-Ok-carry_out_ordinary-clause-trees
 returns-in-Ok-carry_out_ordinary-clause-trees g c one two work =
-    let a = g.A.Remote.state c.args.one.now in
-    let b = g.B.Remote.state c.args.two.now in
-    let a2 = g.A.Remote.state c.look_ordinary.new.one in
-    let b2 = g.B.Remote.state c.look_ordinary.new.two in
+    let a = g.A.Remote.state c.args.one.now in let b = g.B.Remote.state c.args.two.now in let a2 = g.A.Remote.state c.look_ordinary.new.one in let b2 = g.B.Remote.state c.look_ordinary.new.two in
     let looked = untouched a b a2 b2 (c.in-Ok-look_ordinary.ensures.one.tree one) (c.in-Ok-look_ordinary.ensures.two.tree two) in
-    let windows = same_windows a b a2 b2 c.in-Ok-look_ordinary.ensures.one.window c.in-Ok-look_ordinary.ensures.two.window in
-    let f = (g.W.Work.state c.args.work.now).folder in
+    let windows = same_windows a b a2 b2 c.in-Ok-look_ordinary.ensures.one.window c.in-Ok-look_ordinary.ensures.two.window in let f = (g.W.Work.state c.args.work.now).folder in
     let more = not_only c.args.opts.now.check_sync (sym c.is_only.ensures ∙ c.if-is_only.false) in
     let look = c.in-Ok-look_ordinary.ensures.look one two f c.args.entered.now.digest (c.in-Ok.ensures.starts work) more in
     trees_held c.args.opts.now c.args.limits.now c.args.entered.now.rules c.args.entered.now.digest a b f c.in-Ok.started.stamp c.in-Ok.started.pair c.in-Ok-look_ordinary.look look a2 b2 looked windows c.if-opts.false
@@ -159,15 +121,10 @@ returns-in-Ok-carry_out_ordinary-clause-trees g c one two work =
 
 pub returns-in-Ok-carry_out_ordinary-clause-done : goal.returns-in-Ok-carry_out_ordinary-clause-done
 returns-in-Ok-carry_out_ordinary-clause-done g c one two work dry more =
-    let a = g.A.Remote.state c.args.one.now in
-    let b = g.B.Remote.state c.args.two.now in
-    let a2 = g.A.Remote.state c.look_ordinary.new.one in
-    let b2 = g.B.Remote.state c.look_ordinary.new.two in
+    let a = g.A.Remote.state c.args.one.now in let b = g.B.Remote.state c.args.two.now in let a2 = g.A.Remote.state c.look_ordinary.new.one in let b2 = g.B.Remote.state c.look_ordinary.new.two in
     let looked = untouched a b a2 b2 (c.in-Ok-look_ordinary.ensures.one.tree one) (c.in-Ok-look_ordinary.ensures.two.tree two) in
-    let windows = same_windows a b a2 b2 c.in-Ok-look_ordinary.ensures.one.window c.in-Ok-look_ordinary.ensures.two.window in
-    let f = (g.W.Work.state c.args.work.now).folder in
-    let look = c.in-Ok-look_ordinary.ensures.look one two f c.args.entered.now.digest (c.in-Ok.ensures.starts work) more in
-    let small : c.args.limits.now.listing < 2 ^ 64 = omega arith in
+    let windows = same_windows a b a2 b2 c.in-Ok-look_ordinary.ensures.one.window c.in-Ok-look_ordinary.ensures.two.window in let f = (g.W.Work.state c.args.work.now).folder in
+    let look = c.in-Ok-look_ordinary.ensures.look one two f c.args.entered.now.digest (c.in-Ok.ensures.starts work) more in let small : c.args.limits.now.listing < 2 ^ 64 = omega arith in
     let fits = are_within c.args.limits.now (prepared_of c.in-Ok.started.stamp c.in-Ok-look_ordinary.look) c.in-Ok-look_ordinary.ensures.within1 c.in-Ok-look_ordinary.ensures.within2 in
     let ready = prepared_held c.args.opts.now c.args.limits.now c.args.entered.now.rules c.args.entered.now.digest a b f c.in-Ok.started.stamp c.in-Ok.started.pair c.in-Ok-look_ordinary.look look a2 b2 looked windows (g.W.Work.state c.start.new.work).folder (c.in-Ok.ensures.folder work) small fits in
     done_held c.args.opts.now c.args.limits.now c.args.entered.now.rules c.args.entered.now.digest a b f c.in-Ok.started.stamp c.in-Ok.started.pair c.in-Ok-look_ordinary.look look a2 b2 looked windows (g.W.Work.state c.start.new.work).folder (c.in-Ok.ensures.folder work) (g.W.Work.state c.carry_out_ordinary.new.work).folder
@@ -176,24 +133,20 @@ returns-in-Ok-carry_out_ordinary-clause-done g c one two work dry more =
 
 pub returns-in-Ok-carry_out_ordinary-clause-good : goal.returns-in-Ok-carry_out_ordinary-clause-good
 returns-in-Ok-carry_out_ordinary-clause-good g c one two work =
-    let a = g.A.Remote.state c.args.one.now in
-    let b = g.B.Remote.state c.args.two.now in
-    let f = (g.W.Work.state c.args.work.now).folder in
+    let a = g.A.Remote.state c.args.one.now in let b = g.B.Remote.state c.args.two.now in let f = (g.W.Work.state c.args.work.now).folder in
     let more = not_only c.args.opts.now.check_sync (sym c.is_only.ensures ∙ c.if-is_only.false) in
     let look = c.in-Ok-look_ordinary.ensures.look one two f c.args.entered.now.digest (c.in-Ok.ensures.starts work) more in
     numbers_held c.args.opts.now c.args.limits.now c.args.entered.now.rules c.args.entered.now.digest a b f c.in-Ok.started.stamp c.in-Ok.started.pair c.in-Ok-look_ordinary.look look c.if-opts.false more c.in-Ok-carry_out_ordinary.changes.one c.in-Ok-carry_out_ordinary.changes.two c.in-Ok-carry_out_ordinary.ensures.changes.0 c.in-Ok-carry_out_ordinary.ensures.changes.1
 
 pub returns-in-Ok-carry_out_ordinary-clause-answers : goal.returns-in-Ok-carry_out_ordinary-clause-answers
 returns-in-Ok-carry_out_ordinary-clause-answers g c one two work =
-    let f = (g.W.Work.state c.args.work.now).folder in
-    let more = not_only c.args.opts.now.check_sync (sym c.is_only.ensures ∙ c.if-is_only.false) in
+    let f = (g.W.Work.state c.args.work.now).folder in let more = not_only c.args.opts.now.check_sync (sym c.is_only.ensures ∙ c.if-is_only.false) in
     let look = c.in-Ok-look_ordinary.ensures.look one two f c.args.entered.now.digest (c.in-Ok.ensures.starts work) more in
     look.course
 
 pub returns-in-Ok-carry_out_ordinary-clause-accepted : goal.returns-in-Ok-carry_out_ordinary-clause-accepted
 returns-in-Ok-carry_out_ordinary-clause-accepted g c one two work =
-    let f = (g.W.Work.state c.args.work.now).folder in
-    let more = not_only c.args.opts.now.check_sync (sym c.is_only.ensures ∙ c.if-is_only.false) in
+    let f = (g.W.Work.state c.args.work.now).folder in let more = not_only c.args.opts.now.check_sync (sym c.is_only.ensures ∙ c.if-is_only.false) in
     let look = c.in-Ok-look_ordinary.ensures.look one two f c.args.entered.now.digest (c.in-Ok.ensures.starts work) more in
     inl look.course
 
@@ -203,41 +156,27 @@ returns-in-Ok-carry_out_ordinary-clause-lock_new g c work sure =
 
 pub returns-in-Ok-carry_out_ordinary-clause-report : goal.returns-in-Ok-carry_out_ordinary-clause-report
 returns-in-Ok-carry_out_ordinary-clause-report g c one two work sink =
-    let a = g.A.Remote.state c.args.one.now in
-    let b = g.B.Remote.state c.args.two.now in
-    let f = (g.W.Work.state c.args.work.now).folder in
+    let a = g.A.Remote.state c.args.one.now in let b = g.B.Remote.state c.args.two.now in let f = (g.W.Work.state c.args.work.now).folder in
     let more = not_only c.args.opts.now.check_sync (sym c.is_only.ensures ∙ c.if-is_only.false) in
     let look = c.in-Ok-look_ordinary.ensures.look one two f c.args.entered.now.digest (c.in-Ok.ensures.starts work) more in
     inr (told_held c.args.opts.now c.args.limits.now c.args.entered.now.rules c.args.entered.now.digest a b f c.in-Ok.started.stamp c.in-Ok.started.pair c.in-Ok-look_ordinary.look look (g.S.Sink.state c.args.sink.now).bytes (g.S.Sink.state c.plan_lines.new.sink).bytes (c.in-Ok-plan_lines.ensures.bytes sink))
 
 pub returns-in-Ok-carry_out_ordinary-clause-causes : goal.returns-in-Ok-carry_out_ordinary-clause-causes
 returns-in-Ok-carry_out_ordinary-clause-causes g c =
-    let a = (g.A.Remote.state c.args.one.now).faults in
-    let b = (g.B.Remote.state c.args.two.now).faults in
-    let w = (g.W.Work.state c.args.work.now).faults in
-    let s = (g.S.Sink.state c.args.sink.now).faults in
-    let a2 = (g.A.Remote.state c.look_ordinary.new.one).faults in
-    let b2 = (g.B.Remote.state c.look_ordinary.new.two).faults in
-    let w2 = (g.W.Work.state c.start.new.work).faults in
+    let a = (g.A.Remote.state c.args.one.now).faults in let b = (g.B.Remote.state c.args.two.now).faults in let w = (g.W.Work.state c.args.work.now).faults in let s = (g.S.Sink.state c.args.sink.now).faults in
+    let a2 = (g.A.Remote.state c.look_ordinary.new.one).faults in let b2 = (g.B.Remote.state c.look_ordinary.new.two).faults in let w2 = (g.W.Work.state c.start.new.work).faults in
     let s2 = (g.S.Sink.state c.plan_lines.new.sink).faults in
     let told = told_same a b w s a2 b2 w2 s2 ((c.in-Ok.ensures.causes a b s).good refl) ((c.in-Ok-look_ordinary.ensures.causes w2 s).good refl) (c.in-Ok-plan_lines.ensures.cause.kept refl) in
-    let a3 = (g.A.Remote.state c.carry_out_ordinary.new.one).faults in
-    let b3 = (g.B.Remote.state c.carry_out_ordinary.new.two).faults in
-    let w3 = (g.W.Work.state c.carry_out_ordinary.new.work).faults in
+    let a3 = (g.A.Remote.state c.carry_out_ordinary.new.one).faults in let b3 = (g.B.Remote.state c.carry_out_ordinary.new.two).faults in let w3 = (g.W.Work.state c.carry_out_ordinary.new.work).faults in
     well _ _ (Done c.in-Ok-carry_out_ordinary.changes.one c.in-Ok-carry_out_ordinary.changes.two) (done_same a2 b2 w2 a3 b3 w3 s2 c.in-Ok-carry_out_ordinary.changes c.in-Ok-carry_out_ordinary.ensures.causes ∙ told)
 
 pub returns-clause-base : goal.returns-clause-base
 returns-clause-base g c one two work =
-    let a = g.A.Remote.state c.args.one.now in
-    let b = g.B.Remote.state c.args.two.now in
-    let a2 = g.A.Remote.state c.look_ordinary.new.one in
-    let b2 = g.B.Remote.state c.look_ordinary.new.two in
+    let a = g.A.Remote.state c.args.one.now in let b = g.B.Remote.state c.args.two.now in let a2 = g.A.Remote.state c.look_ordinary.new.one in let b2 = g.B.Remote.state c.look_ordinary.new.two in
     let looked = untouched a b a2 b2 (c.in-Ok-look_ordinary.ensures.one.tree one) (c.in-Ok-look_ordinary.ensures.two.tree two) in
-    let windows = same_windows a b a2 b2 c.in-Ok-look_ordinary.ensures.one.window c.in-Ok-look_ordinary.ensures.two.window in
-    let f = (g.W.Work.state c.args.work.now).folder in
+    let windows = same_windows a b a2 b2 c.in-Ok-look_ordinary.ensures.one.window c.in-Ok-look_ordinary.ensures.two.window in let f = (g.W.Work.state c.args.work.now).folder in
     let more = not_only c.args.opts.now.check_sync (sym c.is_only.ensures ∙ c.if-is_only.false) in
-    let look = c.in-Ok-look_ordinary.ensures.look one two f c.args.entered.now.digest (c.in-Ok.ensures.starts work) more in
-    let small : c.args.limits.now.listing < 2 ^ 64 = omega arith in
+    let look = c.in-Ok-look_ordinary.ensures.look one two f c.args.entered.now.digest (c.in-Ok.ensures.starts work) more in let small : c.args.limits.now.listing < 2 ^ 64 = omega arith in
     let fits = are_within c.args.limits.now (prepared_of c.in-Ok.started.stamp c.in-Ok-look_ordinary.look) c.in-Ok-look_ordinary.ensures.within1 c.in-Ok-look_ordinary.ensures.within2 in
     let ready = prepared_held c.args.opts.now c.args.limits.now c.args.entered.now.rules c.args.entered.now.digest a b f c.in-Ok.started.stamp c.in-Ok.started.pair c.in-Ok-look_ordinary.look look a2 b2 looked windows (g.W.Work.state c.start.new.work).folder (c.in-Ok.ensures.folder work) small fits in
     base_held c.args.opts.now c.args.limits.now c.args.entered.now.rules c.args.entered.now.digest a b f c.in-Ok.started.stamp c.in-Ok.started.pair c.in-Ok-look_ordinary.look look a2 b2 looked windows (g.W.Work.state c.start.new.work).folder (c.in-Ok.ensures.folder work) (g.W.Work.state c.carry_out_ordinary.new.work).folder
@@ -246,13 +185,9 @@ returns-clause-base g c one two work =
 
 pub returns-clause-trees : goal.returns-clause-trees
 returns-clause-trees g c one two work =
-    let a = g.A.Remote.state c.args.one.now in
-    let b = g.B.Remote.state c.args.two.now in
-    let a2 = g.A.Remote.state c.look_ordinary.new.one in
-    let b2 = g.B.Remote.state c.look_ordinary.new.two in
+    let a = g.A.Remote.state c.args.one.now in let b = g.B.Remote.state c.args.two.now in let a2 = g.A.Remote.state c.look_ordinary.new.one in let b2 = g.B.Remote.state c.look_ordinary.new.two in
     let looked = untouched a b a2 b2 (c.in-Ok-look_ordinary.ensures.one.tree one) (c.in-Ok-look_ordinary.ensures.two.tree two) in
-    let windows = same_windows a b a2 b2 c.in-Ok-look_ordinary.ensures.one.window c.in-Ok-look_ordinary.ensures.two.window in
-    let f = (g.W.Work.state c.args.work.now).folder in
+    let windows = same_windows a b a2 b2 c.in-Ok-look_ordinary.ensures.one.window c.in-Ok-look_ordinary.ensures.two.window in let f = (g.W.Work.state c.args.work.now).folder in
     let more = not_only c.args.opts.now.check_sync (sym c.is_only.ensures ∙ c.if-is_only.false) in
     let look = c.in-Ok-look_ordinary.ensures.look one two f c.args.entered.now.digest (c.in-Ok.ensures.starts work) more in
     trees_held c.args.opts.now c.args.limits.now c.args.entered.now.rules c.args.entered.now.digest a b f c.in-Ok.started.stamp c.in-Ok.started.pair c.in-Ok-look_ordinary.look look a2 b2 looked windows c.if-opts.false
@@ -260,10 +195,7 @@ returns-clause-trees g c one two work =
 
 pub returns-clause-answers : goal.returns-clause-answers
 returns-clause-answers g c one two work =
-    let a = g.A.Remote.state c.args.one.now in
-    let b = g.B.Remote.state c.args.two.now in
-    let a2 = g.A.Remote.state c.look_ordinary.new.one in
-    let b2 = g.B.Remote.state c.look_ordinary.new.two in
+    let a = g.A.Remote.state c.args.one.now in let b = g.B.Remote.state c.args.two.now in let a2 = g.A.Remote.state c.look_ordinary.new.one in let b2 = g.B.Remote.state c.look_ordinary.new.two in
     let windows = same_windows a b a2 b2 c.in-Ok-look_ordinary.ensures.one.window c.in-Ok-look_ordinary.ensures.two.window in
     let found = c.in-Err-carry_out_ordinary.ensures.found
     (planned_finds (by_side g.A.Remote.tells g.B.Remote.tells) c.args.opts.now c.args.entered.now.rules a b a2 b2 c.in-Ok.started c.in-Ok-look_ordinary.look
@@ -279,19 +211,14 @@ returns-clause-lock_new g c work (inr never) =
 
 pub returns-clause-report : goal.returns-clause-report
 returns-clause-report g c one two work sink =
-    let a = g.A.Remote.state c.args.one.now in
-    let b = g.B.Remote.state c.args.two.now in
-    let f = (g.W.Work.state c.args.work.now).folder in
+    let a = g.A.Remote.state c.args.one.now in let b = g.B.Remote.state c.args.two.now in let f = (g.W.Work.state c.args.work.now).folder in
     let more = not_only c.args.opts.now.check_sync (sym c.is_only.ensures ∙ c.if-is_only.false) in
     let look = c.in-Ok-look_ordinary.ensures.look one two f c.args.entered.now.digest (c.in-Ok.ensures.starts work) more in
     inr (inr (step_may_change c.in-Err-carry_out_ordinary.end c.in-Err-carry_out_ordinary.ensures.end, told_held c.args.opts.now c.args.limits.now c.args.entered.now.rules c.args.entered.now.digest a b f c.in-Ok.started.stamp c.in-Ok.started.pair c.in-Ok-look_ordinary.look look (g.S.Sink.state c.args.sink.now).bytes (g.S.Sink.state c.plan_lines.new.sink).bytes (c.in-Ok-plan_lines.ensures.bytes sink)))
 
 pub returns-clause-told : goal.returns-clause-told
 returns-clause-told g c =
-    let a = g.A.Remote.state c.args.one.now in
-    let b = g.B.Remote.state c.args.two.now in
-    let a2 = g.A.Remote.state c.look_ordinary.new.one in
-    let b2 = g.B.Remote.state c.look_ordinary.new.two in
+    let a = g.A.Remote.state c.args.one.now in let b = g.B.Remote.state c.args.two.now in let a2 = g.A.Remote.state c.look_ordinary.new.one in let b2 = g.B.Remote.state c.look_ordinary.new.two in
     let windows = same_windows a b a2 b2 c.in-Ok-look_ordinary.ensures.one.window c.in-Ok-look_ordinary.ensures.two.window in
     step_told (by_side g.A.Remote.tells g.B.Remote.tells) (by_side a b) c.in-Err-carry_out_ordinary.end c.in-Err-carry_out_ordinary.ensures.end c.in-Err-carry_out_ordinary.ensures.read
     (c.in-Err-carry_out_ordinary.ensures.found
@@ -300,18 +227,11 @@ returns-clause-told g c =
 
 pub returns-clause-causes : goal.returns-clause-causes
 returns-clause-causes g c =
-    let a = (g.A.Remote.state c.args.one.now).faults in
-    let b = (g.B.Remote.state c.args.two.now).faults in
-    let w = (g.W.Work.state c.args.work.now).faults in
-    let s = (g.S.Sink.state c.args.sink.now).faults in
-    let a2 = (g.A.Remote.state c.look_ordinary.new.one).faults in
-    let b2 = (g.B.Remote.state c.look_ordinary.new.two).faults in
-    let w2 = (g.W.Work.state c.start.new.work).faults in
+    let a = (g.A.Remote.state c.args.one.now).faults in let b = (g.B.Remote.state c.args.two.now).faults in let w = (g.W.Work.state c.args.work.now).faults in let s = (g.S.Sink.state c.args.sink.now).faults in
+    let a2 = (g.A.Remote.state c.look_ordinary.new.one).faults in let b2 = (g.B.Remote.state c.look_ordinary.new.two).faults in let w2 = (g.W.Work.state c.start.new.work).faults in
     let s2 = (g.S.Sink.state c.plan_lines.new.sink).faults in
     let told = told_same a b w s a2 b2 w2 s2 ((c.in-Ok.ensures.causes a b s).good refl) ((c.in-Ok-look_ordinary.ensures.causes w2 s).good refl) (c.in-Ok-plan_lines.ensures.cause.kept refl) in
-    let a3 = (g.A.Remote.state c.carry_out_ordinary.new.one).faults in
-    let b3 = (g.B.Remote.state c.carry_out_ordinary.new.two).faults in
-    let w3 = (g.W.Work.state c.carry_out_ordinary.new.work).faults in
+    let a3 = (g.A.Remote.state c.carry_out_ordinary.new.one).faults in let b3 = (g.B.Remote.state c.carry_out_ordinary.new.two).faults in let w3 = (g.W.Work.state c.carry_out_ordinary.new.work).faults in
     since (counts a b w s) (counts a2 b2 w2 s2) _ _ told (unsunk a2 b2 w2 a3 b3 w3 s2 c.in-Err-carry_out_ordinary.end c.in-Err-carry_out_ordinary.ensures.end c.in-Err-carry_out_ordinary.ensures.causes)
 
 pub returns-in_default-clause-trees : goal.returns-in_default-clause-trees
@@ -343,79 +263,67 @@ returns-clause-kind g c =
 
 pub returns-in-Err-clause-begins : goal.returns-in-Err-clause-begins
 returns-in-Err-clause-begins g c work =
-    let f = (g.W.Work.state c.args.work.now).folder in
-    let s = sides_of c.args.opts.now.compare c.args.entered.now.rules (g.A.Remote.state c.args.one.now) (g.B.Remote.state c.args.two.now) in
+    let f = (g.W.Work.state c.args.work.now).folder in let s = sides_of c.args.opts.now.compare c.args.entered.now.rules (g.A.Remote.state c.args.one.now) (g.B.Remote.state c.args.two.now) in
     start_begins c.args.opts.now c.args.limits.now f s c.args.entered.now.digest c.in-Err.end (c.in-Err.ensures.refusal work)
 
 pub returns-then-is_only-clause-begins : goal.returns-then-is_only-clause-begins
 returns-then-is_only-clause-begins g c work =
-    let f = (g.W.Work.state c.args.work.now).folder in
-    let s = sides_of c.args.opts.now.compare c.args.entered.now.rules (g.A.Remote.state c.args.one.now) (g.B.Remote.state c.args.two.now) in
+    let f = (g.W.Work.state c.args.work.now).folder in let s = sides_of c.args.opts.now.compare c.args.entered.now.rules (g.A.Remote.state c.args.one.now) (g.B.Remote.state c.args.two.now) in
     compared_begins c.args.opts.now c.args.limits.now f s c.args.entered.now.digest c.in-Ok.started (c.in-Ok.ensures.starts work)
     (only_is c.args.opts.now.check_sync (sym c.is_only.ensures ∙ c.if-is_only.true)) c.compare_base.result c.compare_base.ensures
 
 pub returns-then-is_only-clause-begun : goal.returns-then-is_only-clause-begun
 returns-then-is_only-clause-begun g c work =
-    let f = (g.W.Work.state c.args.work.now).folder in
-    let s = sides_of c.args.opts.now.compare c.args.entered.now.rules (g.A.Remote.state c.args.one.now) (g.B.Remote.state c.args.two.now) in
+    let f = (g.W.Work.state c.args.work.now).folder in let s = sides_of c.args.opts.now.compare c.args.entered.now.rules (g.A.Remote.state c.args.one.now) (g.B.Remote.state c.args.two.now) in
     compared_begun c.args.opts.now c.args.limits.now f s c.args.entered.now.digest c.in-Ok.started (c.in-Ok.ensures.starts work)
     (only_is c.args.opts.now.check_sync (sym c.is_only.ensures ∙ c.if-is_only.true)) c.compare_base.result c.compare_base.ensures
 
 pub returns-in-Err-look_ordinary-clause-begins : goal.returns-in-Err-look_ordinary-clause-begins
 returns-in-Err-look_ordinary-clause-begins g c work =
-    let f = (g.W.Work.state c.args.work.now).folder in
-    let s = sides_of c.args.opts.now.compare c.args.entered.now.rules (g.A.Remote.state c.args.one.now) (g.B.Remote.state c.args.two.now) in
+    let f = (g.W.Work.state c.args.work.now).folder in let s = sides_of c.args.opts.now.compare c.args.entered.now.rules (g.A.Remote.state c.args.one.now) (g.B.Remote.state c.args.two.now) in
     let more = not_only c.args.opts.now.check_sync (sym c.is_only.ensures ∙ c.if-is_only.false) in
     look_begins c.args.opts.now c.args.limits.now f s c.args.entered.now.digest c.in-Ok.started (c.in-Ok.ensures.starts work) more _ c.in-Err-look_ordinary.end c.in-Err-look_ordinary.ensures.kind c.in-Err-look_ordinary.ensures.prior
 
 pub returns-in-Err-plan_lines-clause-begins : goal.returns-in-Err-plan_lines-clause-begins
 returns-in-Err-plan_lines-clause-begins g c work =
-    let f = (g.W.Work.state c.args.work.now).folder in
-    let s = sides_of c.args.opts.now.compare c.args.entered.now.rules (g.A.Remote.state c.args.one.now) (g.B.Remote.state c.args.two.now) in
+    let f = (g.W.Work.state c.args.work.now).folder in let s = sides_of c.args.opts.now.compare c.args.entered.now.rules (g.A.Remote.state c.args.one.now) (g.B.Remote.state c.args.two.now) in
     let more = not_only c.args.opts.now.check_sync (sym c.is_only.ensures ∙ c.if-is_only.false) in
     begun_by c.args.opts.now c.args.limits.now f s c.args.entered.now.digest c.in-Ok.started (c.in-Ok.ensures.starts work) more c.in-Ok-look_ordinary.ensures.had_prior
 
 pub returns-then-opts-clause-begins : goal.returns-then-opts-clause-begins
 returns-then-opts-clause-begins g c work =
-    let f = (g.W.Work.state c.args.work.now).folder in
-    let s = sides_of c.args.opts.now.compare c.args.entered.now.rules (g.A.Remote.state c.args.one.now) (g.B.Remote.state c.args.two.now) in
+    let f = (g.W.Work.state c.args.work.now).folder in let s = sides_of c.args.opts.now.compare c.args.entered.now.rules (g.A.Remote.state c.args.one.now) (g.B.Remote.state c.args.two.now) in
     let more = not_only c.args.opts.now.check_sync (sym c.is_only.ensures ∙ c.if-is_only.false) in
     begun_by c.args.opts.now c.args.limits.now f s c.args.entered.now.digest c.in-Ok.started (c.in-Ok.ensures.starts work) more c.in-Ok-look_ordinary.ensures.had_prior
 
 pub returns-then-opts-clause-begun : goal.returns-then-opts-clause-begun
 returns-then-opts-clause-begun g c work =
-    let f = (g.W.Work.state c.args.work.now).folder in
-    let s = sides_of c.args.opts.now.compare c.args.entered.now.rules (g.A.Remote.state c.args.one.now) (g.B.Remote.state c.args.two.now) in
+    let f = (g.W.Work.state c.args.work.now).folder in let s = sides_of c.args.opts.now.compare c.args.entered.now.rules (g.A.Remote.state c.args.one.now) (g.B.Remote.state c.args.two.now) in
     let more = not_only c.args.opts.now.check_sync (sym c.is_only.ensures ∙ c.if-is_only.false) in
     inl (begun_by c.args.opts.now c.args.limits.now f s c.args.entered.now.digest c.in-Ok.started (c.in-Ok.ensures.starts work) more c.in-Ok-look_ordinary.ensures.had_prior)
 
 pub returns-in-Ok-carry_out_ordinary-clause-begins : goal.returns-in-Ok-carry_out_ordinary-clause-begins
 returns-in-Ok-carry_out_ordinary-clause-begins g c work =
-    let f = (g.W.Work.state c.args.work.now).folder in
-    let s = sides_of c.args.opts.now.compare c.args.entered.now.rules (g.A.Remote.state c.args.one.now) (g.B.Remote.state c.args.two.now) in
+    let f = (g.W.Work.state c.args.work.now).folder in let s = sides_of c.args.opts.now.compare c.args.entered.now.rules (g.A.Remote.state c.args.one.now) (g.B.Remote.state c.args.two.now) in
     let more = not_only c.args.opts.now.check_sync (sym c.is_only.ensures ∙ c.if-is_only.false) in
     begun_by c.args.opts.now c.args.limits.now f s c.args.entered.now.digest c.in-Ok.started (c.in-Ok.ensures.starts work) more c.in-Ok-look_ordinary.ensures.had_prior
 
 pub returns-in-Ok-carry_out_ordinary-clause-begun : goal.returns-in-Ok-carry_out_ordinary-clause-begun
 returns-in-Ok-carry_out_ordinary-clause-begun g c work =
-    let f = (g.W.Work.state c.args.work.now).folder in
-    let s = sides_of c.args.opts.now.compare c.args.entered.now.rules (g.A.Remote.state c.args.one.now) (g.B.Remote.state c.args.two.now) in
+    let f = (g.W.Work.state c.args.work.now).folder in let s = sides_of c.args.opts.now.compare c.args.entered.now.rules (g.A.Remote.state c.args.one.now) (g.B.Remote.state c.args.two.now) in
     let more = not_only c.args.opts.now.check_sync (sym c.is_only.ensures ∙ c.if-is_only.false) in
     inl (begun_by c.args.opts.now c.args.limits.now f s c.args.entered.now.digest c.in-Ok.started (c.in-Ok.ensures.starts work) more c.in-Ok-look_ordinary.ensures.had_prior)
 
 pub returns-clause-begins : goal.returns-clause-begins
 returns-clause-begins g c work =
-    let f = (g.W.Work.state c.args.work.now).folder in
-    let s = sides_of c.args.opts.now.compare c.args.entered.now.rules (g.A.Remote.state c.args.one.now) (g.B.Remote.state c.args.two.now) in
+    let f = (g.W.Work.state c.args.work.now).folder in let s = sides_of c.args.opts.now.compare c.args.entered.now.rules (g.A.Remote.state c.args.one.now) (g.B.Remote.state c.args.two.now) in
     let more = not_only c.args.opts.now.check_sync (sym c.is_only.ensures ∙ c.if-is_only.false) in
     step_begins c.args.opts.now c.args.limits.now f s c.args.entered.now.digest (begun_by c.args.opts.now c.args.limits.now f s c.args.entered.now.digest c.in-Ok.started (c.in-Ok.ensures.starts work) more c.in-Ok-look_ordinary.ensures.had_prior) c.in-Err-carry_out_ordinary.end c.in-Err-carry_out_ordinary.ensures.end
 
 pub returns-in-Ok-carry_out_ordinary-clause-folder_base : goal.returns-in-Ok-carry_out_ordinary-clause-folder_base
 returns-in-Ok-carry_out_ordinary-clause-folder_base g c work =
-    let f = (g.W.Work.state c.args.work.now).folder in
-    let f2 = (g.W.Work.state c.start.new.work).folder in
-    let s = sides_of c.args.opts.now.compare c.args.entered.now.rules (g.A.Remote.state c.args.one.now) (g.B.Remote.state c.args.two.now) in
-    let start = c.in-Ok.ensures.starts work in
+    let f = (g.W.Work.state c.args.work.now).folder in let f2 = (g.W.Work.state c.start.new.work).folder in
+    let s = sides_of c.args.opts.now.compare c.args.entered.now.rules (g.A.Remote.state c.args.one.now) (g.B.Remote.state c.args.two.now) in let start = c.in-Ok.ensures.starts work in
     let more = not_only c.args.opts.now.check_sync (sym c.is_only.ensures ∙ c.if-is_only.false) in
     let begun = begun_by c.args.opts.now c.args.limits.now f s c.args.entered.now.digest c.in-Ok.started start more c.in-Ok-look_ordinary.ensures.had_prior in
     let ready = ready_to c.args.opts.now c.args.limits.now _ c.args.entered.now.digest f f2 (c.in-Ok.ensures.folder work) c.in-Ok.started start c.in-Ok-look_ordinary.look c.in-Ok-look_ordinary.ensures.compare (omega arith)
@@ -425,9 +333,7 @@ returns-in-Ok-carry_out_ordinary-clause-folder_base g c work =
 
 pub returns-in-Ok-carry_out_ordinary-clause-folder_next : goal.returns-in-Ok-carry_out_ordinary-clause-folder_next
 returns-in-Ok-carry_out_ordinary-clause-folder_next g c work dry more =
-    let f = (g.W.Work.state c.args.work.now).folder in
-    let f2 = (g.W.Work.state c.start.new.work).folder in
-    let start = c.in-Ok.ensures.starts work in
+    let f = (g.W.Work.state c.args.work.now).folder in let f2 = (g.W.Work.state c.start.new.work).folder in let start = c.in-Ok.ensures.starts work in
     let small : c.args.limits.now.listing < 2 ^ 64 = omega arith in
     let fits = are_within c.args.limits.now (prepared_of c.in-Ok.started.stamp c.in-Ok-look_ordinary.look) c.in-Ok-look_ordinary.ensures.within1 c.in-Ok-look_ordinary.ensures.within2 in
     let ready = ready_to c.args.opts.now c.args.limits.now _ c.args.entered.now.digest f f2 (c.in-Ok.ensures.folder work) c.in-Ok.started start c.in-Ok-look_ordinary.look c.in-Ok-look_ordinary.ensures.compare small fits in
@@ -436,13 +342,35 @@ returns-in-Ok-carry_out_ordinary-clause-folder_next g c work dry more =
 
 pub returns-clause-folder_base : goal.returns-clause-folder_base
 returns-clause-folder_base g c work =
-    let f = (g.W.Work.state c.args.work.now).folder in
-    let f2 = (g.W.Work.state c.start.new.work).folder in
-    let s = sides_of c.args.opts.now.compare c.args.entered.now.rules (g.A.Remote.state c.args.one.now) (g.B.Remote.state c.args.two.now) in
-    let start = c.in-Ok.ensures.starts work in
+    let f = (g.W.Work.state c.args.work.now).folder in let f2 = (g.W.Work.state c.start.new.work).folder in
+    let s = sides_of c.args.opts.now.compare c.args.entered.now.rules (g.A.Remote.state c.args.one.now) (g.B.Remote.state c.args.two.now) in let start = c.in-Ok.ensures.starts work in
     let more = not_only c.args.opts.now.check_sync (sym c.is_only.ensures ∙ c.if-is_only.false) in
     let begun = begun_by c.args.opts.now c.args.limits.now f s c.args.entered.now.digest c.in-Ok.started start more c.in-Ok-look_ordinary.ensures.had_prior in
     let ready = ready_to c.args.opts.now c.args.limits.now _ c.args.entered.now.digest f f2 (c.in-Ok.ensures.folder work) c.in-Ok.started start c.in-Ok-look_ordinary.look c.in-Ok-look_ordinary.ensures.compare (omega arith)
     (are_within c.args.limits.now (prepared_of c.in-Ok.started.stamp c.in-Ok-look_ordinary.look) c.in-Ok-look_ordinary.ensures.within1 c.in-Ok-look_ordinary.ensures.within2) in
     kept_or_next c.args.opts.now c.args.limits.now _ c.args.entered.now.digest f f2 (c.in-Ok.ensures.folder work) c.in-Ok.started start c.in-Ok-look_ordinary.look c.in-Ok-look_ordinary.ensures.compare
     (g.W.Work.state c.carry_out_ordinary.new.work).folder _ s begun (c.in-Err-carry_out_ordinary.ensures.folder_base work c.args.limits.now.listing start.base ready)
+
+pub returns-clause-falls_as : goal.returns-clause-falls_as
+returns-clause-falls_as g c work never =
+    falls_as_held _ (g.W.Work.state c.start.new.work).folder _ _ (g.W.Work.state c.start.new.work).faults (g.W.Work.state c.carry_out_ordinary.new.work).faults (c.in-Ok.ensures.folder work)
+    (work_same (g.W.Work.state c.args.work.now).faults (g.W.Work.state c.start.new.work).faults c.in-Ok.started c.in-Ok.ensures.causes) (c.in-Err-carry_out_ordinary.ensures.falls_as work) never
+
+
+pub returns-in-Ok-carry_out_ordinary-clause-set_back : goal.returns-in-Ok-carry_out_ordinary-clause-set_back
+returns-in-Ok-carry_out_ordinary-clause-set_back g c one two work =
+    ordinary_set_back c.args.opts.now c.args.limits.now _ c.args.entered.now.digest (g.W.Work.state c.args.work.now).folder (g.W.Work.state c.start.new.work).folder (c.in-Ok.ensures.folder work) c.in-Ok.started (c.in-Ok.ensures.starts work) c.in-Ok-look_ordinary.look
+    c.in-Ok-look_ordinary.ensures.compare (omega arith) (are_within c.args.limits.now (prepared_of c.in-Ok.started.stamp c.in-Ok-look_ordinary.look) c.in-Ok-look_ordinary.ensures.within1 c.in-Ok-look_ordinary.ensures.within2)
+    (by_side (g.A.Remote.state c.args.one.now) (g.B.Remote.state c.args.two.now)) (by_side (g.A.Remote.state c.look_ordinary.new.one) (g.B.Remote.state c.look_ordinary.new.two)) (by_side (g.A.Remote.state c.carry_out_ordinary.new.one) (g.B.Remote.state c.carry_out_ordinary.new.two)) (g.W.Work.state c.carry_out_ordinary.new.work).folder
+    (untouched _ _ _ _ (c.in-Ok-look_ordinary.ensures.one.tree one) (c.in-Ok-look_ordinary.ensures.two.tree two)) (c.in-Ok-carry_out_ordinary.ensures.set_back one two work)
+
+pub returns-clause-own_lock : goal.returns-clause-own_lock
+returns-clause-own_lock g c work =
+    own_around _ _ _ _ _ _ _ (ap (λ (w : WorkFolder). w.lock) (c.in-Ok.ensures.folder work)) (c.in-Err-carry_out_ordinary.ensures.own_lock work) refl
+
+pub returns-clause-set_back : goal.returns-clause-set_back
+returns-clause-set_back g c one two work =
+    ordinary_set_back c.args.opts.now c.args.limits.now _ c.args.entered.now.digest (g.W.Work.state c.args.work.now).folder (g.W.Work.state c.start.new.work).folder (c.in-Ok.ensures.folder work) c.in-Ok.started (c.in-Ok.ensures.starts work) c.in-Ok-look_ordinary.look
+    c.in-Ok-look_ordinary.ensures.compare (omega arith) (are_within c.args.limits.now (prepared_of c.in-Ok.started.stamp c.in-Ok-look_ordinary.look) c.in-Ok-look_ordinary.ensures.within1 c.in-Ok-look_ordinary.ensures.within2)
+    (by_side (g.A.Remote.state c.args.one.now) (g.B.Remote.state c.args.two.now)) (by_side (g.A.Remote.state c.look_ordinary.new.one) (g.B.Remote.state c.look_ordinary.new.two)) (by_side (g.A.Remote.state c.carry_out_ordinary.new.one) (g.B.Remote.state c.carry_out_ordinary.new.two)) (g.W.Work.state c.carry_out_ordinary.new.work).folder
+    (untouched _ _ _ _ (c.in-Ok-look_ordinary.ensures.one.tree one) (c.in-Ok-look_ordinary.ensures.two.tree two)) (c.in-Err-carry_out_ordinary.ensures.set_back one two work)

@@ -1,5 +1,12 @@
-use Rattle.std.proofs.Common.{inl, inr, refl, ⊎_elim}
+use Rattle.std.proofs.Common.{inl, inr, ap, refl, ⊎_elim}
+use Rattle.bisync_device.specs.WorkFolder.{WorkFolder}
+use Rattle.bisync_model.specs.Trees.{by_side}
+use Rattle.bisync_run.proofs.BasesSetBack.{old_past, old_or_next}
+use Rattle.bisync_run.proofs.DoneSteps.{untouched_same}
+use Rattle.bisync_run.proofs.EndLaws.{rose_since}
+use Rattle.bisync_run.proofs.FallsAsLaws.{falls_as_twice, lock_falls_as, never_rose}
 use Rattle.bisync_run.proofs.LockedFolders.{base_past}
+use Rattle.bisync_run.proofs.OwnLocks.{own_around}
 use Rattle.bisync_run.proofs.NextSet.{keeps_or_next, settled_after}
 use Rattle.bisync_run.proofs.ordinary_changes.carry_out_ordinary.Goals as goal
 
@@ -54,3 +61,53 @@ returns-clause-folder_base g c work limit before is base has =
     (keeps_or_next limit (g.W.Work.state c.args.work.now).folder (g.W.Work.state c.write_ordinary.new.work).folder (g.W.Work.state c.do_steps.new.work).folder
     (g.W.Work.state c.switch.new.work).folder c.args.pair before c.args.prepared is (c.write_ordinary.ensures.keeps work limit before is.is)
     (c.in-Ok.ensures.set_back work limit before is) (c.do_steps.ensures.lock work) (c.switch.ensures.switches work) base has)
+
+-- # The names of the base
+
+pub returns-in-Err-clause-set_back : goal.returns-in-Err-clause-set_back
+returns-in-Err-clause-set_back g c one two work limit before is = inl (untouched_same (by_side (g.A.Remote.state c.args.one.now) (g.B.Remote.state c.args.two.now)))
+
+pub returns-in-Err-do_steps-clause-set_back : goal.returns-in-Err-do_steps-clause-set_back
+returns-in-Err-do_steps-clause-set_back g c one two work limit before is =
+    inr (inl (old_past limit (g.W.Work.state c.write_ordinary.new.work).folder (g.W.Work.state c.do_steps.new.work).folder before c.args.prepared (c.in-Ok.ensures.set_back work limit before is) (c.do_steps.ensures.lock work)))
+
+pub returns-in-Ok-switch-clause-set_back : goal.returns-in-Ok-switch-clause-set_back
+returns-in-Ok-switch-clause-set_back g c one two work limit before is =
+    inr (old_or_next limit (g.W.Work.state c.write_ordinary.new.work).folder (g.W.Work.state c.do_steps.new.work).folder (g.W.Work.state c.switch.new.work).folder before c.args.prepared is.small
+    (c.in-Ok.ensures.set_back work limit before is) (c.do_steps.ensures.lock work) (c.switch.ensures.switches work))
+
+pub returns-clause-set_back : goal.returns-clause-set_back
+returns-clause-set_back g c one two work limit before is =
+    inr (old_or_next limit (g.W.Work.state c.write_ordinary.new.work).folder (g.W.Work.state c.do_steps.new.work).folder (g.W.Work.state c.switch.new.work).folder before c.args.prepared is.small
+    (c.in-Ok.ensures.set_back work limit before is) (c.do_steps.ensures.lock work) (c.switch.ensures.switches work))
+
+-- # A fall to come
+
+pub returns-in-Err-clause-falls_as : goal.returns-in-Err-clause-falls_as
+returns-in-Err-clause-falls_as g c work never = absurd (never (c.in-Err.ensures.calls.cause.rose refl))
+
+pub returns-in-Err-do_steps-clause-falls_as : goal.returns-in-Err-do_steps-clause-falls_as
+returns-in-Err-do_steps-clause-falls_as g c work never =
+    falls_as_twice (c.in-Ok.ensures.falls_as work) (lock_falls_as (g.W.Work.state c.write_ordinary.new.work).folder (g.W.Work.state c.do_steps.new.work).folder (c.do_steps.ensures.lock work))
+
+pub returns-clause-falls_as : goal.returns-clause-falls_as
+returns-clause-falls_as g c work never =
+    never_rose _ (g.W.Work.state c.write_ordinary.new.work).faults _ c.write_ordinary.ensures.calls.cause.later
+    (rose_since _ (g.W.Work.state c.do_steps.new.work).faults _ (c.in-Err-switch.ensures.calls.cause.rose refl) c.do_steps.ensures.causes.later.work) never
+
+-- # The lock
+
+
+pub returns-in-Err-do_steps-clause-own_lock : goal.returns-in-Err-do_steps-clause-own_lock
+returns-in-Err-do_steps-clause-own_lock g c work =
+    own_around _ _ _ _ _ _ _ (ap (λ (w : WorkFolder). w.lock) (c.write_ordinary.ensures.rest work)) (c.do_steps.ensures.own_lock work) refl
+
+pub returns-in-Ok-switch-clause-own_lock : goal.returns-in-Ok-switch-clause-own_lock
+returns-in-Ok-switch-clause-own_lock g c work =
+    own_around _ _ _ _ _ _ _ (ap (λ (w : WorkFolder). w.lock) (c.write_ordinary.ensures.rest work)) (c.in-Ok-do_steps.ensures.own_lock work)
+    (ap (λ (w : WorkFolder). w.lock) (c.switch.ensures.switches work).rest)
+
+pub returns-clause-own_lock : goal.returns-clause-own_lock
+returns-clause-own_lock g c work =
+    own_around _ _ _ _ _ _ _ (ap (λ (w : WorkFolder). w.lock) (c.write_ordinary.ensures.rest work)) (c.in-Ok-do_steps.ensures.own_lock work)
+    (ap (λ (w : WorkFolder). w.lock) (c.switch.ensures.switches work).rest)

@@ -1,3 +1,4 @@
+use Rattle.bisync_run.proofs.FallsAsLaws.{written_falls_as}
 use Rattle.bisync_run.proofs.OrdinaryWrites.{new_keeps, back_keeps, written_past, one_synced, two_synced, set_back}
 use Rattle.bisync_run.proofs.ordinary_changes.write_ordinary.Goals as goal
 
@@ -31,3 +32,8 @@ returns-clause-synced2 g c = λ t.
     two_synced (g.W.Work.state c.set_back.new.work).folder c.header-header.result c.args.prepared.now.plan.final1 c.args.prepared.now.plan.final2
     (written_past c.args.pair (g.W.Work.state c.write_new.new.work).folder (g.W.Work.state c.set_back.new.work).folder c.header-header.result
     c.args.prepared.now.plan.final1 c.args.prepared.now.plan.final2 (c.set_back.ensures.sets_back t) (c.in_ok-write_new.ensures.written t))
+
+pub returns-clause-falls_as : goal.returns-clause-falls_as
+returns-clause-falls_as g c = λ t.
+    written_falls_as c.args.pair (g.W.Work.state c.args.work.now).folder (g.W.Work.state c.write_new.new.work).folder (g.W.Work.state c.set_back.new.work).folder
+    (c.write_new.ensures.rest t) (c.in_ok-set_back.ensures.done t)

@@ -1,7 +1,12 @@
-use Rattle.std.proofs.Common.{inl, inr, refl, ⊎_elim}
+use Rattle.std.proofs.Common.{inl, inr, ap, refl, ⊎_elim}
+use Rattle.bisync_device.specs.WorkFolder.{WorkFolder}
 use Rattle.bisync_run.specs.ResyncWriting.{next_base}
+use Rattle.bisync_run.proofs.BasesSetBack.{digest_past}
 use Rattle.bisync_run.proofs.CarriedOut.{none_or_next, carried_out}
+use Rattle.bisync_run.proofs.EndLaws.{rose_since}
+use Rattle.bisync_run.proofs.FallsAsLaws.{falls_as_twice, lock_falls_as, never_rose, rewritten_falls_as}
 use Rattle.bisync_run.proofs.LockedFolders.{ready_past}
+use Rattle.bisync_run.proofs.OwnLocks.{own_around}
 use Rattle.bisync_run.proofs.resync_changes.carry_out.Goals as goal
 
 pub returns-in-Ok-switch-clause-base : goal.returns-in-Ok-switch-clause-base
@@ -40,3 +45,54 @@ returns-clause-folder_base g c work limit small fits base is =
     inr (⊎_elim inl (λ next. inr (refl, next))
     (none_or_next limit (g.W.Work.state c.write_resync.new.work).folder (g.W.Work.state c.do_steps.new.work).folder (g.W.Work.state c.switch.new.work).folder
     (next_base c.args.prepared) small (c.in-Ok.ensures.no_base work limit) (c.in-Ok.ensures.ready work limit fits.one fits.two) (c.in-Ok-do_steps.ensures.lock work) (c.switch.ensures.switches work)))
+
+-- # The digest
+
+pub returns-in-Err-clause-digest_late : goal.returns-in-Err-clause-digest_late
+returns-in-Err-clause-digest_late g c work limit small fits = ⊎_elim inl (λ none. inr (inl (none limit))) (c.write_resync.ensures.digest_late work)
+
+pub returns-in-Err-do_steps-clause-digest_late : goal.returns-in-Err-do_steps-clause-digest_late
+returns-in-Err-do_steps-clause-digest_late g c work limit small fits =
+    digest_past limit (next_base c.args.prepared) (g.W.Work.state c.args.work.now).folder (g.W.Work.state c.write_resync.new.work).folder (g.W.Work.state c.do_steps.new.work).folder
+    (c.write_resync.ensures.digest_late work) (c.do_steps.ensures.lock work)
+
+pub returns-in-Ok-switch-clause-digest_late : goal.returns-in-Ok-switch-clause-digest_late
+returns-in-Ok-switch-clause-digest_late g c work limit small fits =
+    inr (none_or_next limit (g.W.Work.state c.write_resync.new.work).folder (g.W.Work.state c.do_steps.new.work).folder (g.W.Work.state c.switch.new.work).folder
+    (next_base c.args.prepared) small (c.in-Ok.ensures.no_base work limit) (c.in-Ok.ensures.ready work limit fits.one fits.two) (c.in-Ok-do_steps.ensures.lock work) (c.switch.ensures.switches work))
+
+pub returns-clause-digest_late : goal.returns-clause-digest_late
+returns-clause-digest_late g c work limit small fits =
+    inr (none_or_next limit (g.W.Work.state c.write_resync.new.work).folder (g.W.Work.state c.do_steps.new.work).folder (g.W.Work.state c.switch.new.work).folder
+    (next_base c.args.prepared) small (c.in-Ok.ensures.no_base work limit) (c.in-Ok.ensures.ready work limit fits.one fits.two) (c.in-Ok-do_steps.ensures.lock work) (c.switch.ensures.switches work))
+
+-- # A fall to come
+
+pub returns-in-Err-clause-falls_as : goal.returns-in-Err-clause-falls_as
+returns-in-Err-clause-falls_as g c work never = absurd (never (c.in-Err.ensures.calls.cause.rose refl))
+
+pub returns-in-Err-do_steps-clause-falls_as : goal.returns-in-Err-do_steps-clause-falls_as
+returns-in-Err-do_steps-clause-falls_as g c work never =
+    falls_as_twice (rewritten_falls_as _ _ (c.in-Ok.ensures.rewritten work)) (lock_falls_as (g.W.Work.state c.write_resync.new.work).folder (g.W.Work.state c.do_steps.new.work).folder (c.do_steps.ensures.lock work))
+
+pub returns-clause-falls_as : goal.returns-clause-falls_as
+returns-clause-falls_as g c work never =
+    never_rose _ (g.W.Work.state c.write_resync.new.work).faults _ c.write_resync.ensures.calls.cause.later
+    (rose_since _ (g.W.Work.state c.do_steps.new.work).faults _ (c.in-Err-switch.ensures.calls.cause.rose refl) c.do_steps.ensures.causes.later.work) never
+
+-- # The lock
+
+
+pub returns-in-Err-do_steps-clause-own_lock : goal.returns-in-Err-do_steps-clause-own_lock
+returns-in-Err-do_steps-clause-own_lock g c work =
+    own_around _ _ _ _ _ _ _ (ap (λ (w : WorkFolder). w.lock) (c.write_resync.ensures.rest work)) (c.do_steps.ensures.own_lock work) refl
+
+pub returns-in-Ok-switch-clause-own_lock : goal.returns-in-Ok-switch-clause-own_lock
+returns-in-Ok-switch-clause-own_lock g c work =
+    own_around _ _ _ _ _ _ _ (ap (λ (w : WorkFolder). w.lock) (c.write_resync.ensures.rest work)) (c.in-Ok-do_steps.ensures.own_lock work)
+    (ap (λ (w : WorkFolder). w.lock) (c.switch.ensures.switches work).rest)
+
+pub returns-clause-own_lock : goal.returns-clause-own_lock
+returns-clause-own_lock g c work =
+    own_around _ _ _ _ _ _ _ (ap (λ (w : WorkFolder). w.lock) (c.write_resync.ensures.rest work)) (c.in-Ok-do_steps.ensures.own_lock work)
+    (ap (λ (w : WorkFolder). w.lock) (c.switch.ensures.switches work).rest)

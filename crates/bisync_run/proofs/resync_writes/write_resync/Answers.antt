@@ -1,4 +1,7 @@
-use Rattle.bisync_run.proofs.ResyncWrites.{new_loses, fall_loses, loses_twice}
+use Rattle.std.proofs.Common.{◌∙◌, ap, inl, inr}
+use Rattle.bisync_device.specs.WorkFolder.{WorkFolder}
+use Rattle.bisync_work.proofs.FallLaws.{fallen_none}
+use Rattle.bisync_run.proofs.ResyncWrites.{new_loses, fall_loses, loses_twice, none_past_digest}
 use Rattle.bisync_run.proofs.resync_writes.write_resync.Goals as goal
 
 pub returns-in_err-write_new-clause-loses : goal.returns-in_err-write_new-clause-loses
@@ -6,3 +9,22 @@ returns-in_err-write_new-clause-loses g c = λ t. new_loses _ _ (c.write_new.ens
 
 pub returns-in_err-fall-clause-loses : goal.returns-in_err-fall-clause-loses
 returns-in_err-fall-clause-loses g c = λ t. loses_twice (new_loses _ _ (c.write_new.ensures.rest t)) (fall_loses _ _ (c.fall.ensures.falls t))
+
+pub returns-in_err-write_new-clause-digest_late : goal.returns-in_err-write_new-clause-digest_late
+returns-in_err-write_new-clause-digest_late g c = λ t. inl (ap (λ (w : WorkFolder). w.filters_md5) (c.write_new.ensures.rest t))
+
+pub returns-in_err-fall-clause-digest_late : goal.returns-in_err-fall-clause-digest_late
+returns-in_err-fall-clause-digest_late g c = λ t. inl (ap (λ (w : WorkFolder). w.filters_md5) (c.fall.ensures.falls t).rest ∙ ap (λ (w : WorkFolder). w.filters_md5) (c.write_new.ensures.rest t))
+
+pub returns-in_default-clause-digest_late : goal.returns-in_default-clause-digest_late
+returns-in_default-clause-digest_late g c = λ t. inl (ap (λ (w : WorkFolder). w.filters_md5) (c.fall.ensures.falls t).rest ∙ ap (λ (w : WorkFolder). w.filters_md5) (c.write_new.ensures.rest t))
+
+pub returns-in_err-store_digest-clause-digest_late : goal.returns-in_err-store_digest-clause-digest_late
+returns-in_err-store_digest-clause-digest_late g c = λ t.
+    inr (λ limit. none_past_digest (g.W.Work.state c.fall.new.work).folder (g.W.Work.state c.store_digest.new.work).folder limit
+    (fallen_none limit (g.W.Work.state c.write_new.new.work).folder (g.W.Work.state c.fall.new.work).folder (c.in_ok-fall.ensures.fallen t)) (c.store_digest.ensures.others t))
+
+pub returns-clause-digest_late : goal.returns-clause-digest_late
+returns-clause-digest_late g c = λ t.
+    inr (λ limit. none_past_digest (g.W.Work.state c.fall.new.work).folder (g.W.Work.state c.store_digest.new.work).folder limit
+    (fallen_none limit (g.W.Work.state c.write_new.new.work).folder (g.W.Work.state c.fall.new.work).folder (c.in_ok-fall.ensures.fallen t)) (c.store_digest.ensures.others t))

@@ -1,11 +1,14 @@
 use Rattle.std.proofs.Common.{◌++◌, ◌<◌, ◌^◌, ◌∙◌, ap, refl, inr, arith, ℕ, List}
 use Rattle.bisync_tree.specs.declared.sides.Side.TheVariants.{One, Two}
+use Rattle.bisync_device.specs.WorkFolder.{WorkFolder}
 use Rattle.bisync_model.specs.Trees.{by_side}
 use Rattle.bisync_run.specs.Sides.{sides_of}
+use Rattle.bisync_run.proofs.BasesSetBack.{late_held}
 use Rattle.bisync_run.proofs.DoneSteps.{looked_told}
 use Rattle.bisync_run.proofs.EndCases.{device_answers, step_may_change, told_device}
 use Rattle.bisync_run.proofs.FolderBases.{carried_in_place, lost_or_next}
 use Rattle.bisync_run.proofs.HeldLaws.{untouched, same_windows, looked_base, are_within, aside_held, base_held, done_held, trees_held, finds_held, lines_held, numbers_held}
+use Rattle.bisync_run.proofs.OwnLocks.{own_around}
 use Rattle.bisync_run.proofs.ToldGrounds.{step_told}
 use Rattle.bisync_run.proofs.resyncs.resync.Goals as goal
 
@@ -202,3 +205,21 @@ returns-clause-folder_base g c work =
     let fits = are_within c.args.limits.now c.in-Ok.prepared c.in-Ok.ensures.within1 c.in-Ok.ensures.within2 in
     lost_or_next c.args.limits.now _ f f2 (c.in-Ok.ensures.folder work) c.in-Ok.prepared c.in-Ok.ensures.compare (c.in-Ok.ensures.new_stamp work) (g.W.Work.state c.carry_out.new.work).folder _
     (c.in-Err-carry_out.ensures.folder_base work c.args.limits.now.listing small fits)
+
+
+
+pub returns-in-Ok-carry_out-clause-digest_late : goal.returns-in-Ok-carry_out-clause-digest_late
+returns-in-Ok-carry_out-clause-digest_late g c work =
+    let fits = are_within c.args.limits.now c.in-Ok.prepared c.in-Ok.ensures.within1 c.in-Ok.ensures.within2 in
+    late_held c.args.limits.now _ (g.W.Work.state c.args.work.now).folder (g.W.Work.state c.look_resync.new.work).folder (c.in-Ok.ensures.folder work) c.in-Ok.prepared c.in-Ok.ensures.compare (c.in-Ok.ensures.new_stamp work) (g.W.Work.state c.carry_out.new.work).folder
+    (c.in-Ok-carry_out.ensures.digest_late work c.args.limits.now.listing (omega arith) fits)
+
+pub returns-clause-own_lock : goal.returns-clause-own_lock
+returns-clause-own_lock g c work =
+    own_around _ _ _ _ _ _ _ (ap (λ (w : WorkFolder). w.lock) (c.in-Ok.ensures.folder work)) (c.in-Err-carry_out.ensures.own_lock work) refl
+
+pub returns-clause-digest_late : goal.returns-clause-digest_late
+returns-clause-digest_late g c work =
+    let fits = are_within c.args.limits.now c.in-Ok.prepared c.in-Ok.ensures.within1 c.in-Ok.ensures.within2 in
+    late_held c.args.limits.now _ (g.W.Work.state c.args.work.now).folder (g.W.Work.state c.look_resync.new.work).folder (c.in-Ok.ensures.folder work) c.in-Ok.prepared c.in-Ok.ensures.compare (c.in-Ok.ensures.new_stamp work) (g.W.Work.state c.carry_out.new.work).folder
+    (c.in-Err-carry_out.ensures.digest_late work c.args.limits.now.listing (omega arith) fits)

@@ -10,10 +10,11 @@ use Rattle.bisync_run.specs.ResyncRuns.{HasNumbers, TellsRun}
 use Rattle.bisync_run.proofs.BeginningLaws.{begins_told}
 use Rattle.bisync_run.proofs.BuiltEnds.{told_built}
 use Rattle.bisync_run.proofs.ClosedEnds.{tells_last}
-use Rattle.bisync_run.proofs.ClosedKinds.{no_rise_first, own_told, early_told, fell_told, unfallen_told, freed_told, held_told, unlocked_told}
+use Rattle.bisync_run.proofs.ClosedKinds.{no_rise_first, own_told, early_told, fell_told, unfallen_told, freed_told, held_told, before_told, unlocked_told}
 use Rattle.bisync_run.proofs.InSyncRuns.{in_sync_after, resync_in_sync_after, was_apart}
 use Rattle.bisync_run.proofs.EndLaws.{no_rise_since}
 use Rattle.bisync_run.proofs.FolderBases.{folder_base_told, folder_images}
+use Rattle.bisync_run.proofs.OwnLocks.{own_told as own_lock_told}
 use Rattle.bisync_run.proofs.OrdinaryTold.{ordinary_told, resilient_images, run_answers_told, run_images, run_tells_last}
 use Rattle.bisync_run.proofs.SafeRuns.{keeps_safe}
 use Rattle.bisync_run.proofs.ToldEnds.{after_good_told, good_told, told_same, answers_told, images}
@@ -259,13 +260,13 @@ returns-clause-run_report g c none one two work sink never =
     (c.run_to_close-end.ensures.run_report none one two work sink) (c.tell_end.ensures.bytes sink still))
 
 pub returns-clause-only_base : goal.returns-clause-only_base
-returns-clause-only_base g c none only work good =
-    c.run_to_close-end.ensures.only_base none only work (after_good_told c.run_to_close-end.result c.tell_end.result c.tell_end.ensures.end good)
+returns-clause-only_base g c none only work stays =
+    c.run_to_close-end.ensures.only_base none only work (unfallen_told c.args.opts.now.resilient c.args.opts.now.dry_run c.run_to_close-end.result c.tell_end.result c.tell_end.ensures.end stays)
 
 pub returns-clause-fell : goal.returns-clause-fell
-returns-clause-fell g c work early fell never =
+returns-clause-fell g c work fell never =
     let told = fell_told c.args.opts.now.resilient c.args.opts.now.dry_run c.run_to_close-end.result c.tell_end.result c.tell_end.ensures.end fell in
-    c.run_to_close-end.ensures.fell work (ap may_have_changed (sym told) ∙ early) (ap (lets_fall c.args.opts.now.resilient c.args.opts.now.dry_run) (sym told) ∙ fell) never
+    c.run_to_close-end.ensures.fell work (ap (lets_fall c.args.opts.now.resilient c.args.opts.now.dry_run) (sym told) ∙ fell) never
 
 -- # What the work folder alone tells
 
@@ -319,3 +320,11 @@ pub returns-clause-resync_in_sync : goal.returns-clause-resync_in_sync
 returns-clause-resync_in_sync g c one two work mode is dry good =
     resync_in_sync_after mode c.args.opts.now c.args.limits.now _ _ _ _
     (c.run_to_close-end.ensures.resynced mode is one two work dry (after_good_told c.run_to_close-end.result c.tell_end.result c.tell_end.ensures.end good))
+
+pub returns-clause-own_lock : goal.returns-clause-own_lock
+returns-clause-own_lock g c work =
+    own_lock_told _ _ _ c.run_to_close-end.result c.tell_end.result _ _ (before_told c.run_to_close-end.result c.tell_end.result c.tell_end.ensures.end) (c.run_to_close-end.ensures.own_lock work)
+
+pub returns-clause-unlocked : goal.returns-clause-unlocked
+returns-clause-unlocked g c work un =
+    c.run_to_close-end.ensures.unlocked work (ap is_unlocked (sym (unlocked_told c.run_to_close-end.result c.tell_end.result c.tell_end.ensures.end un)) ∙ un)

@@ -5,6 +5,7 @@ use Rattle.bisync_model.specs.Trees.{by_side}
 use Rattle.bisync_run.specs.Stepping.{FindsTold, MovedDiffers, MovedIsRead}
 use Rattle.bisync_run.proofs.EndCases.{false_true}
 use Rattle.bisync_run.proofs.LockNewLaws.{lock_new_twice, kept_lock_new}
+use Rattle.bisync_run.proofs.OwnLocks.{own_next}
 use Rattle.bisync_run.proofs.StepEnds.{found_end, moved_differs, moved_is_read}
 use Rattle.bisync_run.proofs.StepsDone.{part_now, done_now, both, going_next, keeping_next, fewer_left, none_left, split_here, part_end, causes_end, causes_lock, causes_none}
 use Rattle.bisync_run.proofs.steps.do_steps.Goals as goal
@@ -88,6 +89,7 @@ loop-step-preserved-in-Ok-perform g c =
       keeping_next _ _ _ _ i.3 k.lock (kept_lock_new k.kept) k.left k.cause,
       λ told. k.moment told ∙ i.4 told,
       fewer_left _ _ _ _ _ i.5 c.in-Some.ensures.steps.0 c.in-Some.ensures.steps.1,
+      λ t. own_next _ _ _ _ _ _ _ i.4 (i.6 t) (k.own_lock t),
     )
 
 pub loop-step-preserved-in-Ok-perform-2 : goal.loop-step-preserved-in-Ok-perform-2
@@ -101,6 +103,7 @@ loop-step-preserved-in-Ok-perform-2 g c =
       keeping_next _ _ _ _ i.3 k.lock (kept_lock_new k.kept) k.left k.cause,
       λ told. k.moment told ∙ i.4 told,
       fewer_left _ _ _ _ _ i.5 c.in-Some.ensures.steps.0 c.in-Some.ensures.steps.1,
+      λ t. own_next _ _ _ _ _ _ _ i.4 (i.6 t) (k.own_lock t),
     )
 
 pub loop-step-preserved : goal.loop-step-preserved
@@ -114,6 +117,7 @@ loop-step-preserved g c =
       keeping_next _ _ _ _ i.3 k.lock (kept_lock_new k.kept) k.left k.cause,
       λ told. k.moment told ∙ i.4 told,
       fewer_left _ _ _ _ _ i.5 c.in-Some.ensures.steps.0 c.in-Some.ensures.steps.1,
+      λ t. own_next _ _ _ _ _ _ _ i.4 (i.6 t) (k.own_lock t),
     )
 
 -- # After the last step
@@ -142,3 +146,14 @@ pub returns-clause-causes : goal.returns-clause-causes
 returns-clause-causes g c =
     let i = c.loop-step.invariant in
     causes_none _ _ _ _ _ _ _ (i.2.faults One) (i.2.faults Two) i.3.faults
+
+-- # The lock
+
+pub returns-in-Err-clause-own_lock : goal.returns-in-Err-clause-own_lock
+returns-in-Err-clause-own_lock g c t = own_next _ _ _ _ _ _ _ c.loop-step.invariant.4 (c.loop-step.invariant.6 t) (c.keep_lock.ensures.own_lock t)
+
+pub returns-in-Err-perform-clause-own_lock : goal.returns-in-Err-perform-clause-own_lock
+returns-in-Err-perform-clause-own_lock g c t = own_next _ _ _ _ _ _ _ c.loop-step.invariant.4 (c.loop-step.invariant.6 t) (c.in-Ok.ensures.own_lock t)
+
+pub returns-clause-own_lock : goal.returns-clause-own_lock
+returns-clause-own_lock g c t = c.loop-step.invariant.6 t

@@ -1,0 +1,114 @@
+-- Under which names the base before stands after an ordinary run, and the digest beside it after a resync.
+use Rattle.std.proofs.Common.{◌≡◌, ◌⊎◌, ◌∙◌, ◌<◌, ◌^◌, ap, sym, subst, inl, inr, ⊎_elim, ℕ, List, Option, Some, None}
+use Rattle.std.specs.Option.{unwrap_or}
+use Rattle.bisync_tree.specs.declared.entries.Compare.{Compare}
+use Rattle.bisync_tree.specs.declared.options.Limits.{Limits}
+use Rattle.bisync_device.specs.WorkFolder.{WorkFolder, IsSettled, IsImage}
+use Rattle.bisync_work.specs.declared.bases.Pair.TheVariants.{Current, Old}
+use Rattle.bisync_work.specs.Base.{Base, HasBaseIn, IsBase, HasNoBase}
+use Rattle.bisync_work.specs.Locks.{ChangesLock}
+use Rattle.bisync_work.specs.Moves.{IsReady, Switches}
+use Rattle.bisync_work.specs.Stamps.{IsNewStamp}
+use Rattle.bisync_work.proofs.BaseLaws.{base_is_one, same_in_pair}
+use Rattle.bisync_opts.specs.declared.options.Opts.{Opts}
+use Rattle.bisync_run.specs.CarryingOut.{AreWithin}
+use Rattle.bisync_run.specs.Closing.{Closes}
+use Rattle.bisync_run.specs.FolderBases.{IsNextOf, TakesNext}
+use Rattle.bisync_run.specs.LeftNames.{LeavesBaseSetBack, StoresDigestLate}
+use Rattle.bisync_run.specs.OrdinaryChanges.{IsPrepared, IsSetBack}
+use Rattle.bisync_run.specs.ResyncWriting.{next_base}
+use Rattle.bisync_run.specs.Starts.{IsStartOf}
+use Rattle.bisync_run.specs.Untouched.{Remotes, AreUntouched}
+use Rattle.bisync_run.specs.declared.looks.Look.{Look}
+use Rattle.bisync_run.specs.declared.prepared.Prepared.{Prepared}
+use Rattle.bisync_run.specs.declared.starting.Started.{Started}
+use Rattle.bisync_run.proofs.DoneSteps.{untouched_twice}
+use Rattle.bisync_run.proofs.FolderBases.{next_of, ready_to}
+use Rattle.bisync_run.proofs.LockedFolders.{base_past, no_base_past, ready_past, same_listings, stamp_before}
+use Rattle.bisync_run.proofs.OrdinaryHeld.{prepared_of}
+
+-- # The steps of an ordinary run, and its switch
+
+pub old_past : (limit : ℕ) (f g : WorkFolder) (before : Base) (prepared : Prepared) → IsSetBack limit before prepared f → ChangesLock f g → HasBaseIn limit g Old before
+old_past limit f g before prepared back lock = same_in_pair limit f g (same_listings f g lock) Old before back.is
+
+pub old_or_next : (limit : ℕ) (f g h : WorkFolder) (before : Base) (prepared : Prepared) → limit < 2 ^ 64 → IsSetBack limit before prepared f → ChangesLock f g → Switches g h
+    → HasBaseIn limit h Old before ⊎ IsBase limit h (Some (next_base prepared))
+old_or_next limit f g h before prepared small back lock switches =
+    ⊎_elim inl (λ next. inr (Current, next))
+    (switches.older limit (next_base prepared) small (ready_past f g lock limit (next_base prepared) back.ready) before (old_past limit f g before prepared back lock))
+
+-- # The ordinary run
+
+pub untouched_set_back : (limits : Limits) (compare : Compare) (f : WorkFolder) (start : Remotes) (g : WorkFolder) (now : Remotes) → AreUntouched start now → LeavesBaseSetBack limits compare f start g now
+untouched_set_back limits compare f start g now same before is = inl same
+
+module _ (limits : Limits) (compare : Compare) (f : WorkFolder) (start mid now : Remotes) (g : WorkFolder) where
+  -- after it was carried out, from the base that it started from
+  pub set_back_held : limits.listing < 2 ^ 64 → AreUntouched start mid → (prepared : Prepared) → IsNextOf limits compare f (next_base prepared) → (before : Base) → IsBase limits.listing f (Some before)
+      → AreUntouched mid now ⊎ (HasBaseIn limits.listing g Old before ⊎ IsBase limits.listing g (Some (next_base prepared))) → LeavesBaseSetBack limits compare f start g now
+  set_back_held small looked prepared next before is left other has =
+      let one : before ≡ other = ap (λ (o : Option Base). unwrap_or o before) (base_is_one limits.listing f small (Some before) (Some other) is has) in
+      ⊎_elim
+      (λ same. inl (untouched_twice looked same))
+      (λ changed. inr (⊎_elim (λ old. inl (subst (HasBaseIn limits.listing g Old) one old)) (λ taken. inr (inr (next_base prepared, next, taken))) changed))
+      left
+
+-- and from what started it
+pub ordinary_set_back : (opts : Opts) (limits : Limits) (compare : Compare) (digest : Option (List ℕ)) (f f2 : WorkFolder) (same : f2 ≡ f) (started : Started) (start : IsStartOf opts limits f digest started)
+    (made : Look) (fields : made.compare ≡ compare) → limits.listing < 2 ^ 64 → AreWithin limits.listing (prepared_of started.stamp made) → (before mid now : Remotes) (g : WorkFolder) → AreUntouched before mid
+    → ((limit : ℕ) (base : Base) → IsPrepared limit f2 started.pair base (prepared_of started.stamp made)
+        → AreUntouched mid now ⊎ (HasBaseIn limit g Old base ⊎ IsBase limit g (Some (next_base (prepared_of started.stamp made)))))
+    → LeavesBaseSetBack limits compare f before g now
+ordinary_set_back opts limits compare digest f f2 same started start made fields small fits before mid now g looked left =
+    set_back_held limits compare f before mid now g small looked (prepared_of started.stamp made) (next_of limits compare f (prepared_of started.stamp made) fields start.new) start.base
+    (started.pair, start.starts.is) (left limits.listing start.base (ready_to opts limits compare digest f f2 same started start made fields small fits))
+
+-- # The digest of a resync
+
+pub digest_past : (limit : ℕ) (next : Base) (f g h : WorkFolder) → (g.filters_md5 ≡ f.filters_md5) ⊎ ((most : ℕ) → HasNoBase most g) → ChangesLock g h
+    → (h.filters_md5 ≡ f.filters_md5) ⊎ (HasNoBase limit h ⊎ IsBase limit h (Some next))
+digest_past limit next f g h late lock =
+    ⊎_elim (λ same. inl (ap (λ (w : WorkFolder). w.filters_md5) lock.rest ∙ same)) (λ none. inr (inl (no_base_past g h lock limit (none limit)))) late
+
+pub late_same : (limits : Limits) (compare : Compare) (f g : WorkFolder) → g ≡ f → StoresDigestLate limits compare f g
+late_same limits compare f g same = inl (ap (λ (w : WorkFolder). w.filters_md5) same)
+
+pub late_held : (limits : Limits) (compare : Compare) (f f2 : WorkFolder) → f2 ≡ f → (prepared : Prepared) → prepared.compare ≡ compare → IsNewStamp limits.listing f prepared.stamp → (g : WorkFolder)
+    → (g.filters_md5 ≡ f2.filters_md5) ⊎ (HasNoBase limits.listing g ⊎ IsBase limits.listing g (Some (next_base prepared))) → StoresDigestLate limits compare f g
+late_held limits compare f f2 same prepared fields new g late =
+    ⊎_elim
+    (λ stays. inl (stays ∙ ap (λ (w : WorkFolder). w.filters_md5) same))
+    (λ other. inr (⊎_elim inl (λ taken. inr (next_base prepared, next_of limits compare f prepared fields new, taken)) other))
+    late
+
+-- # The close, said of the folder without the lock
+
+module _ (limits : Limits) (compare : Compare) (f f2 g h : WorkFolder) (changes : ChangesLock f f2) (closes : Closes g h) where
+  takes_closed : TakesNext limits compare f2 g → HasNoBase limits.listing h ⊎ TakesNext limits compare f h
+  takes_closed taken =
+      let of = taken.1 in
+      ⊎_elim
+      (λ stays. inr (taken.0, record { stamp = of.stamp; new = stamp_before f f2 changes limits.listing of.stamp of.new; header = of.header }, stays))
+      (λ none. inl none)
+      (closes.base limits.listing (Some taken.0) taken.2)
+
+  none_closed : HasNoBase limits.listing g → HasNoBase limits.listing h
+  none_closed none = ⊎_elim (λ same. same) (λ same. same) (closes.base limits.listing None none)
+
+  pub late_closed : StoresDigestLate limits compare f2 g → StoresDigestLate limits compare f h
+  late_closed late =
+      ⊎_elim
+      (λ same. inl (ap (λ (w : WorkFolder). w.filters_md5) closes.rest ∙ same ∙ ap (λ (w : WorkFolder). w.filters_md5) changes.rest))
+      (λ other. inr (⊎_elim (λ none. inl (none_closed none)) takes_closed other))
+      late
+
+  pub old_closed : (start now : Remotes) → LeavesBaseSetBack limits compare f2 start g now → LeavesBaseSetBack limits compare f start h now
+  old_closed start now leaves before is =
+      ⊎_elim
+      (λ same. inl same)
+      (λ other. inr (⊎_elim
+      (λ old. ⊎_elim (λ stays. inl stays) (λ none. inr (inl none)) (closes.pair limits.listing Old before old))
+      (λ more. inr (⊎_elim (λ none. inl (none_closed none)) takes_closed more))
+      other))
+      (leaves before (base_past f f2 changes limits.listing (Some before) is))

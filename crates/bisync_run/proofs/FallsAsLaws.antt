@@ -1,0 +1,93 @@
+-- What a fall would leave under the -err names, past the moves of a run.
+use Rattle.std.proofs.Common.{◌≡◌, ◌≤◌, ◌∙◌, ℕ, List, Option, Bool, true, refl, sym, ap, subst, Result, Ok, Err}
+use Rattle.std.specs.Prelude.{IfErr}
+use Rattle.bisync_device.specs.Faults.{Rose}
+use Rattle.bisync_device.specs.WorkFolder.{Held, Absent, Kept, Loose, WorkFolder}
+use Rattle.bisync_device.specs.declared.works.WorkName.TheVariants as name
+use Rattle.bisync_work.specs.declared.bases.Pair.{Pair}
+use Rattle.bisync_work.specs.declared.bases.Pair.TheVariants.{Current, Mixed, Old}
+use Rattle.bisync_work.specs.Locks.{ChangesLock}
+use Rattle.bisync_work.specs.Moves.{moved_over}
+use Rattle.bisync_work.specs.NewListings.{but_new}
+use Rattle.bisync_work.specs.Renames.{after_renames, back_renames}
+use Rattle.bisync_work.proofs.RenameLaws.{over, renamed_over}
+use Rattle.bisync_report.specs.declared.ends.End.{End}
+use Rattle.bisync_run.specs.EndKinds.{falls_at_close}
+use Rattle.bisync_run.specs.LeftNames.{FallsAs}
+use Rattle.bisync_run.specs.ResyncWriting.{AreRewritten}
+use Rattle.bisync_run.proofs.EndCases.{false_true}
+use Rattle.bisync_run.proofs.EndLaws.{rose_since}
+
+pub falls_as_same : (f g : WorkFolder) → g ≡ f → FallsAs f g
+falls_as_same f g same = record {
+  one = ap (λ (w : WorkFolder). moved_over w.one (moved_over w.one_old w.one_err)) same;
+  two = ap (λ (w : WorkFolder). moved_over w.two (moved_over w.two_old w.two_err)) same;
+}
+
+pub falls_as_twice : {f g h : WorkFolder} → FallsAs f g → FallsAs g h → FallsAs f h
+falls_as_twice first second = record { one = second.one ∙ first.one; two = second.two ∙ first.two }
+
+pub lock_falls_as : (f g : WorkFolder) → ChangesLock f g → FallsAs f g
+lock_falls_as f g changes = record {
+  one = ap (λ (w : WorkFolder). moved_over w.one (moved_over w.one_old w.one_err)) changes.rest;
+  two = ap (λ (w : WorkFolder). moved_over w.two (moved_over w.two_old w.two_err)) changes.rest;
+}
+
+-- # An ordinary run
+
+new_falls_as : (f g : WorkFolder) → but_new g ≡ but_new f → FallsAs f g
+new_falls_as f g rest = record {
+  one = ap (λ (w : WorkFolder). moved_over w.one (moved_over w.one_old w.one_err)) rest;
+  two = ap (λ (w : WorkFolder). moved_over w.two (moved_over w.two_old w.two_err)) rest;
+}
+
+over_again : (a b c : Held) → moved_over (moved_over a b) c ≡ moved_over a (moved_over b c)
+over_again Absent b c = refl
+over_again (Kept bytes) b c = refl
+over_again (Loose bytes) b c = refl
+
+one_back : (f : WorkFolder) → FallsAs f (over name.One name.OneOld f)
+one_back f = record { one = over_again f.one f.one_old f.one_err; two = refl }
+
+two_back : (f : WorkFolder) → FallsAs f (over name.Two name.TwoOld f)
+two_back f = record { one = refl; two = over_again f.two f.two_old f.two_err }
+
+set_back_falls_as : (pair : Pair) (f : WorkFolder) → FallsAs f (after_renames (back_renames pair) f)
+set_back_falls_as Current f =
+    subst (FallsAs f) (sym (renamed_over name.Two name.TwoOld _ ∙ ap (over name.Two name.TwoOld) (renamed_over name.One name.OneOld f)))
+    (falls_as_twice (one_back f) (two_back (over name.One name.OneOld f)))
+set_back_falls_as Mixed f = subst (FallsAs f) (sym (renamed_over name.Two name.TwoOld f)) (two_back f)
+set_back_falls_as Old f = falls_as_same f f refl
+
+pub written_falls_as : (pair : Pair) (f g h : WorkFolder) → but_new g ≡ but_new f → h ≡ after_renames (back_renames pair) g → FallsAs f h
+written_falls_as pair f g h rest done = falls_as_twice (new_falls_as f g rest) (subst (FallsAs g) (sym done) (set_back_falls_as pair g))
+
+-- # A resync
+
+moved_nothing : (a b c d : Held) → a ≡ Absent → b ≡ Absent → c ≡ d → moved_over a (moved_over b c) ≡ d
+moved_nothing a b c d first second same = ap (λ (x : Held). moved_over x (moved_over b c)) first ∙ ap (λ (x : Held). moved_over x c) second ∙ same
+
+pub rewritten_falls_as : {digest : Option (List ℕ)} (f g : WorkFolder) → AreRewritten digest f g → FallsAs f g
+rewritten_falls_as f g is = record {
+  one = moved_nothing g.one g.one_old g.one_err _ is.one is.one_old is.one_err;
+  two = moved_nothing g.two g.two_old g.two_err _ is.two is.two_old is.two_err;
+}
+
+-- # From one part of a run to the next
+
+pub falls_as_held : (f f2 g : WorkFolder) (w w2 w3 : ℕ) → f2 ≡ f → w2 ≡ w → ((Rose w2 w3 → ⊥) → FallsAs f2 g) → (Rose w w3 → ⊥) → FallsAs f g
+falls_as_held f f2 g w w2 w3 same steady falls never =
+    subst (λ (h : WorkFolder). FallsAs h g) same (falls (λ rose. never (subst (λ (n : ℕ). Rose n w3) steady rose)))
+
+-- a call that failed rose the count
+pub never_rose : {P : Type 0} (a b c : ℕ) → a ≤ b → Rose b c → (Rose a c → ⊥) → P
+never_rose a b c later rose never = absurd (never (rose_since a b c rose later))
+
+pub any_err : {T E P : Type 0} (r : Result T E) → P → IfErr r (λ e. P)
+any_err (Ok x) p = tt
+any_err (Err e) p = p
+
+-- what holds of an end that isn't good holds where listings fall
+pub where_it_falls : {P : Type 0} (resilient dry_run : Bool) (ended : Result End End) → falls_at_close resilient dry_run ended ≡ true → IfErr ended (λ end. P) → P
+where_it_falls resilient dry_run (Ok end) falls p = false_true falls
+where_it_falls resilient dry_run (Err end) falls p = p
