@@ -22,7 +22,7 @@ use Rattle.bisync_run.specs.EndKinds.{is_after_good}
 use Rattle.bisync_run.specs.HeldResyncs.{end_of}
 use Rattle.bisync_run.specs.Looking.{IsWhyUnseen, IsWhyNotBoth, unplanned_end}
 use Rattle.bisync_run.specs.OrdinaryEnds.{IsUnplannedOrdinaryEnd}
-use Rattle.bisync_run.specs.OrdinaryLooks.{HasPrior, IsPriorAnswer, IsPriorEnd, IsGuardEnd, guard_end}
+use Rattle.bisync_run.specs.OrdinaryLooks.{HasPrior, IsApartAnswer, IsPriorAnswer, IsPriorEnd, IsGuardEnd, guard_end}
 use Rattle.bisync_run.specs.Sides.{Sides}
 use Rattle.bisync_run.specs.Starting.{ComparesBase, IsStartAnswer}
 use Rattle.bisync_run.specs.Starts.{IsStartOf}
@@ -122,28 +122,29 @@ module _ (opts : Opts) (limits : Limits) (f : WorkFolder) (s : Sides) (digest : 
         };
       }
 
-      pub look_begins : (compare : Compare) (end : End) → IsUnplannedOrdinaryEnd opts compare end → IsPriorAnswer s.passes started.one started.two end → AnswersBeginning opts limits f s digest end
-      look_begins compare OutOfMemory kind x = tt
-      look_begins compare (EmptyPrior One) kind x = inr (started.pair, start.base, start.starts, (more, subst (λ (r : Rows). passing s.passes r ≡ []) start.one x))
-      look_begins compare (EmptyPrior Two) kind x =
+      pub look_begins : (compare : Compare) (end : End) → IsUnplannedOrdinaryEnd opts compare end → IsPriorAnswer s.passes started.one started.two end → IsApartAnswer s.compare s.passes started.one started.two end → AnswersBeginning opts limits f s digest end
+      unfolding begun_by
+      look_begins compare OutOfMemory kind x apart = tt
+      look_begins compare (EmptyPrior One) kind x apart = inr (started.pair, start.base, start.starts, (more, subst (λ (r : Rows). passing s.passes r ≡ []) start.one x))
+      look_begins compare (EmptyPrior Two) kind x apart =
           inr (
             started.pair,
             start.base,
             start.starts,
             (more, subst (λ (r : Rows). passing s.passes r ≢ []) start.one x.0, subst (λ (r : Rows). passing s.passes r ≡ []) start.two x.1),
           )
-      look_begins compare (RemoteFault side) kind x = begun_by x
-      look_begins compare (BadPath side text) kind x = begun_by x
-      look_begins compare (TooMany side files bytes) kind x = begun_by x
-      look_begins compare (CheckAccess side path) kind x = begun_by x
-      look_begins compare (EmptyCurrent side) kind x = begun_by x
-      look_begins compare (TooManyDeletes side gone all) kind x = begun_by x
-      look_begins compare (AllChanged side all) kind x = begun_by x
-      look_begins compare (NameTooLong side path) kind x = begun_by x
-      look_begins compare (ListingTooLong side bytes) kind x = begun_by x
-      look_begins compare (OutOfSync path one two) kind x = begun_by x
-      look_begins compare (Moved side path listed read) kind x = begun_by x
-      look_begins compare end kind x = absurd kind
+      look_begins compare (RemoteFault side) kind x apart = begun_by x
+      look_begins compare (BadPath side text) kind x apart = begun_by x
+      look_begins compare (TooMany side files bytes) kind x apart = begun_by x
+      look_begins compare (CheckAccess side path) kind x apart = begun_by x
+      look_begins compare (EmptyCurrent side) kind x apart = begun_by x
+      look_begins compare (TooManyDeletes side gone all) kind x apart = begun_by x
+      look_begins compare (AllChanged side all) kind x apart = begun_by x
+      look_begins compare (NameTooLong side path) kind x apart = begun_by x
+      look_begins compare (ListingTooLong side bytes) kind x apart = begun_by x
+      look_begins compare (OutOfSync path one two) kind x apart = record { begun = begun_by x; apart = subst (λ (t : Rows × Rows). IsApartAnswer s.compare s.passes t.0 t.1 (OutOfSync path one two)) (λ i. (start.one i, start.two i)) apart }
+      look_begins compare (Moved side path listed read) kind x apart = begun_by x
+      look_begins compare end kind x apart = absurd kind
 
   pub step_begins : IsBegun opts limits f s digest → (end : End) → IsStepEnd end → AnswersBeginning opts limits f s digest end
   step_begins begun WorkFault x = tt
@@ -169,6 +170,7 @@ module _ (opts : Opts) (limits : Limits) (f g : WorkFolder) (changes : ChangesLo
   well_before x = ⊎_elim (λ begun. inl (begun_before begun)) (λ same. inr (in_sync_before opts limits f g changes s digest same)) x
 
   pub begins_before : (end : End) → AnswersBeginning opts limits g s digest end → AnswersBeginning opts limits f s digest end
+  unfolding begun_before
   begins_before WorkFault x = tt
   begins_before OutOfMemory x = tt
   begins_before (FiltersChanged now stored) x = refusal_before opts limits f g changes s digest (FiltersChanged now stored) x
@@ -176,6 +178,7 @@ module _ (opts : Opts) (limits : Limits) (f g : WorkFolder) (changes : ChangesLo
   begins_before (NeedResync need) x = refusal_before opts limits f g changes s digest (NeedResync need) x
   begins_before (ListingsDiffer p one two) x = refusal_before opts limits f g changes s digest (ListingsDiffer p one two) x
   begins_before (EmptyPrior side) x = refusal_before opts limits f g changes s digest (EmptyPrior side) x
+  begins_before (OutOfSync p one two) x = record { begun = begun_before x.begun; apart = x.apart }
   begins_before InSync x = in_sync_before opts limits f g changes s digest x
   begins_before (SinkFault true) x = well_before x
   begins_before LockLeft x = well_before x

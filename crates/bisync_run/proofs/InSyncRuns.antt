@@ -14,11 +14,12 @@ use Rattle.bisync_report.specs.declared.ends.End.TheVariants.{OutOfSync}
 use Rattle.bisync_transfer.specs.StepTrees.{trees_in}
 use Rattle.bisync_run.specs.Agreement.{BaseAgrees, EndAgrees, LeavesInSync, LeavesResyncInSync, WasApartBefore}
 use Rattle.bisync_run.specs.Courses.{Course, is_checked}
-use Rattle.bisync_run.specs.OrdinaryRuns.{AnswersOrdinaryRun, IsDoneBy, policy_in}
+use Rattle.bisync_run.specs.Beginnings.{AnswersBeginningOf}
+use Rattle.bisync_run.specs.OrdinaryRuns.{IsDoneBy, policy_in}
 use Rattle.bisync_run.specs.ResyncRuns.{IsResyncedBy, Matter, sides_in}
 use Rattle.bisync_run.specs.Sides.{resync_known}
 use Rattle.bisync_run.specs.Untouched.{Remotes}
-use Rattle.bisync_run.proofs.AgreementLaws.{checked_agree, end_agrees, not_out_of_sync, resync_end_agrees}
+use Rattle.bisync_run.proofs.AgreementLaws.{checked_agree, end_agrees, resync_end_agrees}
 
 module _ (opts : Opts) (limits : Limits) (f : WorkFolder) (start : Remotes) where
   agreed : (m : Matter opts f start) (course : Course opts limits f (sides_in m) m.digest) → IsTrue (is_checked opts.check_sync) ⊎ BaseAgrees opts (sides_in m) course.base
@@ -36,15 +37,9 @@ module _ (opts : Opts) (limits : Limits) (f : WorkFolder) (start : Remotes) wher
         λ why. subst (λ (trees : Trees). AgreeWherePassing (policy_in opts (sides_in m)) (entries_of (sides_in m).compare trees)) (sym (same_is_equal (trees_in now) _ done.1.trees)) (agreed m course why),
       )
 
-  pub was_apart : (told : Bool) (moment : ℤ) (p : PathBytes) (one two : Option Entry) → AnswersOrdinaryRun opts limits f start told moment (OutOfSync p one two) → WasApartBefore opts limits f start
+  pub was_apart : (told : Bool) (moment : ℤ) (p : PathBytes) (one two : Option Entry) → AnswersBeginningOf opts limits f start told moment (OutOfSync p one two) → WasApartBefore opts limits f start
   was_apart told moment p one two (inl entry) = absurd entry
-  was_apart told moment p one two (inr (free, (m, inl start_refusal))) = absurd start_refusal
-  was_apart told moment p one two (inr (free, (m, inr (pair, base, starts, refused)))) = (
-    m,
-    base,
-    (pair, starts.is),
-    λ agrees. not_out_of_sync opts.compare m.rules (start One) (start Two) opts base agrees limits f p one two refused,
-  )
+  was_apart told moment p one two (inr (free, (m, x))) = (m, x.begun.base, (x.begun.pair, x.begun.starts.is), x.apart)
 
 pub resync_in_sync_after : (mode : Prefer) (opts : Opts) (limits : Limits) (f : WorkFolder) (start : Remotes) (g : WorkFolder) (now : Remotes)
     → IsResyncedBy mode opts limits f start g now → LeavesResyncInSync mode opts f start now

@@ -47,6 +47,7 @@ pub mod OrdinaryEndCases
 pub mod PlannedFound
 pub mod BlockedFolders
 pub mod AgreementLaws
+pub mod ApartBases
 pub mod PlannedViews
 pub mod LooksBefore
 pub mod BeginningLaws

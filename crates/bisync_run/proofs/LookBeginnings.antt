@@ -12,7 +12,7 @@ use Rattle.bisync_run.specs.Beginnings.{AnswersBeginning, AnswersBeginningOf, Is
 use Rattle.bisync_run.specs.Entering.{AtMoment}
 use Rattle.bisync_run.specs.LookRuns.{FreesWith}
 use Rattle.bisync_run.specs.OrdinaryEnds.{IsUnplannedOrdinaryEnd}
-use Rattle.bisync_run.specs.OrdinaryLooks.{HasPrior, IsPriorAnswer}
+use Rattle.bisync_run.specs.OrdinaryLooks.{HasPrior, IsApartAnswer, IsPriorAnswer}
 use Rattle.bisync_run.specs.ResyncRuns.{Matter, sides_in}
 use Rattle.bisync_run.specs.Sides.{Sides}
 use Rattle.bisync_run.specs.Starts.{IsStartOf}
@@ -26,9 +26,9 @@ use Rattle.bisync_run.proofs.LooksBefore.{freed_end}
 
 module _ (opts : Opts) (limits : Limits) (f : WorkFolder) (s : Sides) (digest : Option (List ℕ)) (started : Started) (start : IsStartOf opts limits f digest started) (more : opts.check_sync ≢ Only) where
   pub looks_begin : (compare : Compare) (result : Result Look End) → IfErr result (IsUnplannedOrdinaryEnd opts compare) → IfErr result (IsPriorAnswer s.passes started.one started.two)
-      → IfErr result (AnswersBeginning opts limits f s digest)
-  looks_begin compare (Ok made) kind x = x
-  looks_begin compare (Err end) kind x = look_begins opts limits f s digest started start more compare end kind x
+      → IfErr result (IsApartAnswer s.compare s.passes started.one started.two) → IfErr result (AnswersBeginning opts limits f s digest)
+  looks_begin compare (Ok made) kind x apart = x
+  looks_begin compare (Err end) kind x apart = look_begins opts limits f s digest started start more compare end kind x apart
 
   pub looks_begun : (result : Result Look End) → OnOk result (HasPrior s.passes started.one started.two) → OnOk result (IsBegun opts limits f s digest)
   looks_begun (Ok made) x = begun_by opts limits f s digest started start more x

@@ -7,7 +7,8 @@ use Rattle.bisync_work.specs.declared.bases.Pair.{Pair}
 use Rattle.bisync_work.specs.Base.{Base}
 use Rattle.bisync_work.specs.Locks.{IsFree}
 use Rattle.bisync_report.specs.declared.ends.End.{End}
-use Rattle.bisync_report.specs.declared.ends.End.TheVariants.{InSync, WorkFault, FiltersChanged, BadListing, NeedResync, ListingsDiffer, EmptyPrior, SinkFault, LockLeft, OutOfMemory}
+use Rattle.bisync_report.specs.declared.ends.End.TheVariants.{InSync, WorkFault, FiltersChanged, BadListing, NeedResync, ListingsDiffer, EmptyPrior, OutOfSync, SinkFault, LockLeft, OutOfMemory}
+use Rattle.bisync_run.specs.Agreement.{BaseAgrees}
 use Rattle.bisync_run.specs.Courses.{IsInSync, MayLook}
 use Rattle.bisync_run.specs.Entering.{AtMoment, IsEntryEnd}
 use Rattle.bisync_run.specs.OrdinaryRefusals.{IsOrdinaryRefusal}
@@ -25,12 +26,18 @@ pub record IsBegun (opts : Opts) (limits : Limits) (f : WorkFolder) (s : Sides) 
   pub starts : StartsFrom opts limits f digest pair base
   pub looks : MayLook opts s base
 
+-- and the passing parts of its base don't agree
+pub record IsBegunApart (opts : Opts) (limits : Limits) (f : WorkFolder) (s : Sides) (digest : Option (List ℕ)) : Type 0 where
+  pub begun : IsBegun opts limits f s digest
+  pub apart : BaseAgrees opts s begun.base → ⊥
+
 -- or it only compares its base, and nothing differs
 abbrev pub IsWellBegun : Opts → Limits → WorkFolder → Sides → Option (List ℕ) → Type 0
 IsWellBegun opts limits f s digest = IsBegun opts limits f s digest ⊎ IsInSync opts limits f s digest
 
 -- What each end says of this: a refusal of the beginning comes exactly where its condition holds and none before it does,
--- and every other answer where none does, but a failed device and the want of memory.
+-- and every other answer where none does, but a failed device and the want of memory; that as out of sync comes only where
+-- the base doesn't agree, whatever the sides have.
 abbrev pub AnswersBeginning : Opts → Limits → WorkFolder → Sides → Option (List ℕ) → End → Type 0
 AnswersBeginning opts limits f s digest WorkFault = ⊤
 AnswersBeginning opts limits f s digest OutOfMemory = ⊤
@@ -40,6 +47,7 @@ AnswersBeginning opts limits f s digest (NeedResync need) = IsOrdinaryRefusal op
 AnswersBeginning opts limits f s digest (ListingsDiffer p one two) = IsOrdinaryRefusal opts limits f s digest (ListingsDiffer p one two)
 AnswersBeginning opts limits f s digest (EmptyPrior side) = IsOrdinaryRefusal opts limits f s digest (EmptyPrior side)
 AnswersBeginning opts limits f s digest InSync = IsInSync opts limits f s digest
+AnswersBeginning opts limits f s digest (OutOfSync p one two) = IsBegunApart opts limits f s digest
 AnswersBeginning opts limits f s digest (SinkFault true) = IsWellBegun opts limits f s digest
 AnswersBeginning opts limits f s digest LockLeft = IsWellBegun opts limits f s digest
 AnswersBeginning opts limits f s digest end = IsBegun opts limits f s digest

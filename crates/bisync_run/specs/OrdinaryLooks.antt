@@ -1,6 +1,7 @@
 -- What looking at the sides and planning answers, in an ordinary run.
-use Rattle.std.specs.Prelude.{◌≡◌, ◌≢◌, ◌⊎◌, ℕ, List, [], Bool, Option, Some, ⊤}
-use Rattle.bisync_tree.specs.Rows.{PathBytes, Rows, passing}
+use Rattle.std.specs.Prelude.{◌≡◌, ◌≢◌, ◌⊎◌, ℕ, List, [], Bool, true, Option, Some, ⊤}
+use Rattle.bisync_tree.specs.Rows.{PathBytes, Rows, look, passing}
+use Rattle.bisync_tree.specs.Same.{same}
 use Rattle.bisync_tree.specs.declared.sides.Side.TheVariants.{One, Two}
 use Rattle.bisync_tree.specs.declared.options.Limits.{Limits}
 use Rattle.bisync_tree.specs.declared.entries.Compare.{Compare}
@@ -13,7 +14,7 @@ use Rattle.bisync_work.specs.Base.{Base}
 use Rattle.bisync_opts.specs.declared.options.CheckSync.TheVariants.{Only}
 use Rattle.bisync_opts.specs.declared.options.Opts.{Opts}
 use Rattle.bisync_report.specs.declared.ends.End.{End}
-use Rattle.bisync_report.specs.declared.ends.End.TheVariants.{EmptyPrior, RemoteFault, CheckAccess, EmptyCurrent, TooManyDeletes, AllChanged, OutOfMemory}
+use Rattle.bisync_report.specs.declared.ends.End.TheVariants.{EmptyPrior, RemoteFault, CheckAccess, EmptyCurrent, TooManyDeletes, AllChanged, OutOfSync, OutOfMemory}
 use Rattle.bisync_run.specs.Courses.{known_in, paths_through}
 use Rattle.bisync_run.specs.OrdinaryRefusals.{IsOrdinaryRefusal}
 use Rattle.bisync_run.specs.Sides.{Sides}
@@ -56,6 +57,11 @@ IsPriorAnswer passes one two OutOfMemory = ⊤
 IsPriorAnswer passes one two (EmptyPrior One) = passing passes one ≡ []
 IsPriorAnswer passes one two (EmptyPrior Two) = (passing passes one ≢ []) × (passing passes two ≡ [])
 IsPriorAnswer passes one two end = HasPrior passes one two
+
+-- the refusal as out of sync comes only where the passing parts don't agree
+abbrev pub IsApartAnswer : Compare → (PathBytes → Bool) → Rows → Rows → End → Type 0
+IsApartAnswer compare passes one two (OutOfSync p first second) = ((q : PathBytes) → passes q ≡ true → same compare (look one q) (look two q) ≡ true) → ⊥
+IsApartAnswer compare passes one two end = ⊤
 
 -- the end of a run that a guard stops
 abbrev pub guard_end : Guard → End

@@ -17,7 +17,7 @@ ghost use Rattle.bisync_run.specs.Grounds.{HasGrounds, IsTold};
 ghost use Rattle.bisync_run.specs.Looking.{OnlyLooks};
 ghost use Rattle.bisync_run.specs.LookRuns.{IsPlannedView};
 ghost use Rattle.bisync_run.specs.OrdinaryEnds.{IsUnplannedOrdinaryEnd};
-ghost use Rattle.bisync_run.specs.OrdinaryLooks.{HasPrior, IsPriorOf, IsPriorAnswer, IsPriorEnd, IsGuardEnd, ForStart, AnswersLook};
+ghost use Rattle.bisync_run.specs.OrdinaryLooks.{HasPrior, IsApartAnswer, IsPriorOf, IsPriorAnswer, IsPriorEnd, IsGuardEnd, ForStart, AnswersLook};
 ghost use Rattle.bisync_run.specs.Planned.{IsPlannedOver};
 ghost use Rattle.bisync_run.specs.Sides.{compare_in, sides_of};
 
@@ -65,6 +65,7 @@ pub fn look_ordinary<A: Remote, B: Remote>(
     ensures refusal { IsTrue A.tells → IsTrue B.tells → (f : WorkFolder) (digest : Option (List ℕ)) → ForStart opts.now limits.now f digest started (IfErr result
         (AnswersLook opts.now limits.now f (sides_of opts.now.compare rules.now (A.state one.old) (B.state two.old)) digest)) }
     ensures prior { IfErr result (IsPriorAnswer (rules_pass rules.now) started.one started.two) }
+    ensures apart { IfErr result (IsApartAnswer (compare_in opts.now.compare (A.state one.old).window (B.state two.old).window) (rules_pass rules.now) started.one started.two) }
     ensures had_prior { OnOk result (HasPrior (rules_pass rules.now) started.one started.two) }
     ensures kind { IfErr result (IsUnplannedOrdinaryEnd opts.now (compare_in opts.now.compare (A.state one.old).window (B.state two.old).window)) }
     ensures grounds { IfErr result (HasGrounds limits.now (by_side A.tells B.tells)) }

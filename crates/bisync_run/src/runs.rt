@@ -78,7 +78,7 @@ pub fn run<A: Remote, B: Remote, W: Work, C: Clock, S: Sink>(
         IsDoneBy opts.now limits.now (W.state work.old).folder (by_side (A.state one.old) (B.state two.old)) (W.state work.new).folder (by_side (A.state one.new) (B.state two.new)) }
     ensures in_sync { opts.now.resync ≡ None → IsTrue A.tells → IsTrue B.tells → IsTrue W.tells → opts.now.dry_run ≡ false → opts.now.check_sync ≢ CheckSync.Only → is_after_good result ≡ true →
         LeavesInSync opts.now limits.now (W.state work.old).folder (by_side (A.state one.old) (B.state two.old)) (by_side (A.state one.new) (B.state two.new)) }
-    ensures was_apart { opts.now.resync ≡ None → IsTrue A.tells → IsTrue B.tells → IsTrue W.tells → (p : PathBytes) (first second : Option Entry) → result ≡ OutOfSync p first second →
+    ensures was_apart { opts.now.resync ≡ None → IsTrue W.tells → (p : PathBytes) (first second : Option Entry) → result ≡ OutOfSync p first second →
         WasApartBefore opts.now limits.now (W.state work.old).folder (by_side (A.state one.old) (B.state two.old)) }
     ensures resync_in_sync { IsTrue A.tells → IsTrue B.tells → IsTrue W.tells → (mode : Prefer) → opts.now.resync ≡ Some mode → opts.now.dry_run ≡ false → is_after_good result ≡ true →
         LeavesResyncInSync mode opts.now (W.state work.old).folder (by_side (A.state one.old) (B.state two.old)) (by_side (A.state one.new) (B.state two.new)) }

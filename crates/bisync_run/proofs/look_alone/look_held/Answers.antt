@@ -52,7 +52,7 @@ returns-clause-begins g c work =
     let f = (g.W.Work.state c.args.work.now).folder in
     let s = sides_of c.args.opts.now.compare c.args.entered.now.rules (g.A.Remote.state c.args.one.now) (g.B.Remote.state c.args.two.now) in
     looks_begin c.args.opts.now c.args.limits.now f s c.args.entered.now.digest c.in-Ok.started (c.in-Ok.ensures.starts work) c.requires.more _ c.look_ordinary.result
-    c.look_ordinary.ensures.kind c.look_ordinary.ensures.prior
+    c.look_ordinary.ensures.kind c.look_ordinary.ensures.prior c.look_ordinary.ensures.apart
 
 pub returns-clause-begun : goal.returns-clause-begun
 returns-clause-begun g c work =

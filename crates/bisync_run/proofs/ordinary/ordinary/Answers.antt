@@ -282,7 +282,7 @@ pub returns-in-Err-look_ordinary-clause-begins : goal.returns-in-Err-look_ordina
 returns-in-Err-look_ordinary-clause-begins g c work =
     let f = (g.W.Work.state c.args.work.now).folder in let s = sides_of c.args.opts.now.compare c.args.entered.now.rules (g.A.Remote.state c.args.one.now) (g.B.Remote.state c.args.two.now) in
     let more = not_only c.args.opts.now.check_sync (sym c.is_only.ensures ∙ c.if-is_only.false) in
-    look_begins c.args.opts.now c.args.limits.now f s c.args.entered.now.digest c.in-Ok.started (c.in-Ok.ensures.starts work) more _ c.in-Err-look_ordinary.end c.in-Err-look_ordinary.ensures.kind c.in-Err-look_ordinary.ensures.prior
+    look_begins c.args.opts.now c.args.limits.now f s c.args.entered.now.digest c.in-Ok.started (c.in-Ok.ensures.starts work) more _ c.in-Err-look_ordinary.end c.in-Err-look_ordinary.ensures.kind c.in-Err-look_ordinary.ensures.prior c.in-Err-look_ordinary.ensures.apart
 
 pub returns-in-Err-plan_lines-clause-begins : goal.returns-in-Err-plan_lines-clause-begins
 returns-in-Err-plan_lines-clause-begins g c work =

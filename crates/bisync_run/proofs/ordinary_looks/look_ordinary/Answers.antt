@@ -2,6 +2,7 @@ use Rattle.std.proofs.Common.{◌∙◌}
 use Rattle.bisync_filter.specs.Passing.{rules_pass}
 use Rattle.bisync_model.specs.Trees.{by_side}
 use Rattle.bisync_run.specs.Sides.{sides_of}
+use Rattle.bisync_run.proofs.ApartBases.{guarded_apart, not_both_apart, prior_apart, unplanned_apart}
 use Rattle.bisync_run.proofs.BeginningLaws.{guarded_after, not_both_after, prior_answer, unplanned_after}
 use Rattle.bisync_run.proofs.CauseLaws.{follows, fails, nothing_failed, not_planned}
 use Rattle.bisync_run.proofs.GuardEnds.{guard_kind, guard_caused}
@@ -156,3 +157,23 @@ pub returns-in-Err-made-clause-prior : goal.returns-in-Err-made-clause-prior
 returns-in-Err-made-clause-prior g c =
     unplanned_after (rules_pass c.args.rules.now) c.args.started.one c.args.started.two (c.in-Ok.ensures.prior.some1, c.in-Ok.ensures.prior.some2)
     c.in-Err-made.fault c.unplanned.result c.unplanned.ensures
+
+-- # The refusal as out of sync
+
+pub returns-in-Err-clause-apart : goal.returns-in-Err-clause-apart
+returns-in-Err-clause-apart g c = prior_apart _ _ _ _ (rules_pass c.args.rules.now) c.args.started.one c.args.started.two c.in-Err.end c.in-Err.ensures.refusal
+
+pub returns-in-Err-look_at_both-clause-apart : goal.returns-in-Err-look_at_both-clause-apart
+returns-in-Err-look_at_both-clause-apart g c =
+    not_both_apart _ _ _ _ (by_side g.A.Remote.tells g.B.Remote.tells) (g.A.Remote.state c.args.one.now).tree (g.B.Remote.state c.args.two.now).tree c.run_compare-compare.result (rules_pass c.args.rules.now) c.args.limits.now c.in-Err-look_at_both.end c.in-Err-look_at_both.ensures.refusal
+
+pub returns-in-Err-check_guards-clause-apart : goal.returns-in-Err-check_guards-clause-apart
+returns-in-Err-check_guards-clause-apart g c = guarded_apart _ _ _ _ _ c.in-Err-check_guards.end c.in-Err-check_guards.ensures.refusal
+
+pub returns-in-Err-made-clause-apart : goal.returns-in-Err-made-clause-apart
+returns-in-Err-made-clause-apart g c =
+    let seen = c.in-Ok-look_at_both.ensures in
+    let keeps = keeps_times c.args.opts.now.compare c.run_compare-compare.result _ _ c.window.result c.window-2.result
+    c.run_compare-compare.ensures (c.window.ensures ∙ seen.one.window) (c.window-2.ensures ∙ seen.two.window) in
+    unplanned_apart c.args.opts.now.conflict c.run_compare-compare.result (rules_pass c.args.rules.now) c.window.result c.window-2.result c.seen_view-view.result keeps
+    _ c.args.started.one c.args.started.two c.run_compare-compare.ensures c.seen_view-view.ensures.prior _ _ _ _ c.in-Err-made.fault c.unplanned.result c.unplanned.ensures c.in-Err-made.ensures.fault

@@ -3,9 +3,10 @@ use Rattle.bisync_device.specs.Sink.{SinkState}
 use Rattle.bisync_model.specs.Trees.{by_side}
 use Rattle.bisync_report.specs.LastLine.{last_text}
 use Rattle.bisync_report.specs.declared.ends.End.{End}
+use Rattle.bisync_run.specs.Beginnings.{AnswersBeginningOf}
 use Rattle.bisync_run.specs.EndKinds.{is_good, is_unlocked, lets_fall, may_have_changed, may_tell_plan}
 use Rattle.bisync_run.specs.Entering.{IsEntryEnd}
-use Rattle.bisync_run.specs.OrdinaryRuns.{AnswersOrdinaryRun, HasOrdinaryNumbers, TellsOrdinaryRun}
+use Rattle.bisync_run.specs.OrdinaryRuns.{HasOrdinaryNumbers, TellsOrdinaryRun}
 use Rattle.bisync_run.specs.ResyncRuns.{HasNumbers, TellsRun}
 use Rattle.bisync_run.proofs.BeginningLaws.{begins_told}
 use Rattle.bisync_run.proofs.BuiltEnds.{told_built}
@@ -307,14 +308,14 @@ returns-clause-in_sync g c none one two work dry only good =
     (c.run_to_close-end.ensures.done none one two work dry only (after_good_told c.run_to_close-end.result c.tell_end.result c.tell_end.ensures.end good))
 
 pub returns-clause-was_apart : goal.returns-clause-was_apart
-returns-clause-was_apart g c none one two work p first second is =
+returns-clause-was_apart g c none work p first second is =
     let f = (g.W.Work.state c.args.work.now).folder in
     let start = by_side (g.A.Remote.state c.args.one.now) (g.B.Remote.state c.args.two.now) in
     let moment = g.C.Clock.moment c.args.clock.now in
     was_apart c.args.opts.now c.args.limits.now f start g.C.Clock.tells moment p first second
-    (subst (AnswersOrdinaryRun c.args.opts.now c.args.limits.now f start g.C.Clock.tells moment) is
-    (run_answers_told c.args.opts.now c.args.limits.now f start g.C.Clock.tells moment c.run_to_close-end.result c.tell_end.result
-    (c.run_to_close-end.ensures.run_answers none one two work) (c.run_to_close-end.ensures.unrefused none one two work) c.tell_end.ensures.end))
+    (subst (AnswersBeginningOf c.args.opts.now c.args.limits.now f start g.C.Clock.tells moment) is
+    (begins_told c.args.opts.now c.args.limits.now f start g.C.Clock.tells moment c.run_to_close-end.result c.tell_end.result
+    (c.run_to_close-end.ensures.begins none work) (c.run_to_close-end.ensures.begun none work) c.tell_end.ensures.end))
 
 pub returns-clause-resync_in_sync : goal.returns-clause-resync_in_sync
 returns-clause-resync_in_sync g c one two work mode is dry good =
