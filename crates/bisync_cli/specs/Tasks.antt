@@ -1,5 +1,6 @@
 -- What the words ask for.
-use Rattle.std.specs.Prelude.{ℕ, ⊤, Bool, true, false, not, ◌&&◌, ◌||◌, List, [], ◌∷◌, Option, Some, None, Result, Ok, Err, codes, is_some, if◌then◌else◌}
+use Rattle.std.specs.Prelude.{◌≡◌, ℕ, ⊤, IsTrue, Bool, true, false, not, ◌&&◌, ◌||◌, List, [], ◌∷◌, Option, Some, None, Result, Ok, Err, codes, is_some, if◌then◌else◌}
+use Rattle.bisync_device.specs.Faults.{Rose}
 use Rattle.bisync_opts.specs.Choices.{chosen}
 use Rattle.bisync_opts.specs.Options.{options_of}
 use Rattle.bisync_opts.specs.Ranges.{IsInRange}
@@ -70,6 +71,18 @@ OfTask (Err kind) Says = ⊤
 -- and of the run that words ask for
 abbrev pub OfRun : List (List ℕ) → (Opts → Type 0) → Type 0
 OfRun words Says = OfTask (task_in words) Says
+
+-- and where that is no resync
+abbrev pub OfOrdinary : List (List ℕ) → (Opts → Type 0) → Type 0
+OfOrdinary words Says = OfRun words (λ opts. opts.resync ≡ None → Says opts)
+
+-- what is said where both remotes and the work folder tell what they hold
+abbrev pub AllTell : Bool → Bool → Bool → Type 0 → Type 0
+AllTell one two work Says = IsTrue one → IsTrue two → IsTrue work → Says
+
+-- a count didn't rise
+abbrev pub Stood : ℕ → ℕ → Type 0
+Stood before now = Rose before now → ⊥
 
 -- whether words that are read so ask for a run
 abbrev pub is_run : Result Task UsageKind → Bool

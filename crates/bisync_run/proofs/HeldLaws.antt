@@ -24,7 +24,7 @@ use Rattle.bisync_report.specs.Lines.{steps_text}
 use Rattle.bisync_run.specs.CarryingOut.{AreWithin, LeavesOneBase, AreCarriedOut, AreSetAside, but_carried}
 use Rattle.bisync_run.specs.Planned.{IsResyncOver}
 use Rattle.bisync_run.specs.ResyncRefusals.{HasNoResyncRefusal}
-use Rattle.bisync_run.specs.Resyncs.{IsMadeAnew, IsResynced, LeavesBase, LeavesTrees, resync_changes, resync_lines}
+use Rattle.bisync_run.specs.Resyncs.{HasOutcome, IsMadeAnew, IsResynced, LeavesBase, LeavesMix, LeavesTrees, resync_changes, resync_lines}
 use Rattle.bisync_run.specs.ResyncWriting.{next_base, stored}
 use Rattle.bisync_run.specs.Sides.{Sides, sides_of, resync_known, resync_paths}
 use Rattle.bisync_run.specs.Stepping.{IsPartDone, FindsAll}
@@ -121,6 +121,12 @@ module _ (mode : Prefer) (limits : Limits) (compare : Compare) (rules : List Rul
   pub trees_held : HasNoResyncRefusal mode limits f s → (now : Remotes) → IsPartDone prepared.plan.steps.items (by_side a2 b2) now → LeavesTrees mode limits f s (by_side a b) now
   trees_held none now part =
       inr (none, part_mixed mode compare rules a b prepared plan now (part_since (by_side a b) (by_side a2 b2) looked windows prepared.plan.steps.items now part))
+
+  pub mix_held : (now : Remotes) → IsPartDone prepared.plan.steps.items (by_side a2 b2) now → LeavesMix mode s (by_side a b) now
+  mix_held now part = inr (part_mixed mode compare rules a b prepared plan now (part_since (by_side a b) (by_side a2 b2) looked windows prepared.plan.steps.items now part))
+
+  pub outcome_held : (now : Remotes) → AreDone prepared.plan.steps.items (by_side a2 b2) now → HasOutcome mode s (by_side a b) now
+  outcome_held now done = record { trees = all_done mode compare rules a b prepared plan now (since now done); changes = all_counted mode compare rules a b prepared plan now (since now done) }
 
   pub lines_held : steps_text prepared.plan.steps.items ≡ resync_lines mode s
   lines_held = ap steps_text plan.steps

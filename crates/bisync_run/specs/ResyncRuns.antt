@@ -15,9 +15,11 @@ use Rattle.bisync_run.specs.EndKinds.{is_after_good, is_sink_fault, is_unlocked,
 use Rattle.bisync_run.specs.Entering.{AtMoment, IsEntryEnd}
 use Rattle.bisync_run.specs.FilterRules.{AreRulesOf}
 use Rattle.bisync_run.specs.HeldResyncs.{IsGoodEndOf}
-use Rattle.bisync_run.specs.Resyncs.{IsMadeAnew, IsResynced, LeavesTrees, resync_lines}
+use Rattle.bisync_model.specs.Between.{IsMixOf}
+use Rattle.bisync_transfer.specs.StepTrees.{trees_in}
+use Rattle.bisync_run.specs.Resyncs.{HasOutcome, IsMadeAnew, IsResynced, LeavesTrees, resync_lines}
 use Rattle.bisync_run.specs.ResyncRefusals.{AnswersResync, HasNoResyncRefusal}
-use Rattle.bisync_run.specs.Sides.{Sides, sides_of}
+use Rattle.bisync_run.specs.Sides.{Sides, resync_end, sides_of, start_of}
 use Rattle.bisync_run.specs.Untouched.{Remotes, AreUntouched}
 
 -- the filter rules that apply to a run that begins with this folder, and what both sides are by them
@@ -60,6 +62,14 @@ abbrev pub LeavesTreesOf : Prefer → Opts → Limits → WorkFolder → Remotes
 LeavesTreesOf mode opts limits f start told moment now =
     AreUntouched start now
     ⊎ (AtMoment told moment (λ now. IsFree now f.lock) × ((m : Matter opts f start) × LeavesTrees mode limits f (sides_in m) start now))
+
+-- No side was touched; or each has at each path what it had, or what it is to have, by the rules.
+abbrev pub LeavesMixOf : Prefer → Opts → WorkFolder → Remotes → Remotes → Type 0
+LeavesMixOf mode opts f start now = AreUntouched start now ⊎ ((m : Matter opts f start) × IsMixOf (start_of (sides_in m)) (resync_end mode (sides_in m)) (trees_in now))
+
+-- Both trees are what the resync is to leave, by the rules, and the changes are counted.
+abbrev pub HasOutcomeOf : Prefer → Opts → WorkFolder → Remotes → Remotes → Type 0
+HasOutcomeOf mode opts f start now = (m : Matter opts f start) × HasOutcome mode (sides_in m) start now
 
 -- The resync was done.
 abbrev pub IsResyncedBy : Prefer → Opts → Limits → WorkFolder → Remotes → WorkFolder → Remotes → Type 0

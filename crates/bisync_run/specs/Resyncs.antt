@@ -77,3 +77,14 @@ pub record IsResynced (mode : Prefer) (limits : Limits) (f : WorkFolder) (s : Si
   pub stored : g.filters_md5 ≡ stored digest f.filters_md5
   pub rest : but_carried g ≡ but_carried f
   pub changes : (side : Side) → (now side).changes ≡ (start side).changes + resync_changes mode s side
+
+-- # What both sides alone tell
+
+-- no side was touched; or each has at each path what it had, or what it is to have
+abbrev pub LeavesMix : Prefer → Sides → Remotes → Remotes → Type 0
+LeavesMix mode s start now = AreUntouched start now ⊎ IsMixOf (start_of s) (resync_end mode s) (trees_in now)
+
+-- both trees are what the resync is to leave, and the changes are counted
+pub record HasOutcome (mode : Prefer) (s : Sides) (start now : Remotes) : Type 0 where
+  pub trees : SameTrees (trees_in now) (resync_end mode s)
+  pub changes : (side : Side) → (now side).changes ≡ (start side).changes + resync_changes mode s side

@@ -14,6 +14,7 @@ ghost use Rattle.bisync_run.specs.Closing.{HasNoListings, but_fallen_or_lock};
 ghost use Rattle.bisync_run.specs.Counts.{counts, Later, Ends};
 ghost use Rattle.bisync_run.specs.EndKinds.{is_good, is_after_good, has_freed, is_before_lock, is_unlocked, lets_fall, may_have_changed, may_tell_plan};
 ghost use Rattle.bisync_run.specs.Entering.{AtMoment, HasSomeRules, IsEntryEnd, IsHeldBack};
+ghost use Rattle.bisync_run.specs.FilterRules.{KnowsRules};
 ghost use Rattle.bisync_run.specs.FolderBases.{LeavesFolderBase, LeavesNextInPlace, Writes, compared};
 ghost use Rattle.bisync_run.specs.Grounds.{HasGrounds, IsTold};
 ghost use Rattle.bisync_run.specs.LeftNames.{LeavesBaseSetBack, LeavesOwnLock, StoresDigestLate};
@@ -22,7 +23,7 @@ ghost use Rattle.bisync_run.specs.Ordinary.{KeepsOrdinaryRest};
 ghost use Rattle.bisync_run.specs.OrdinaryEnds.{IsOrdinaryEnd};
 ghost use Rattle.bisync_run.specs.OrdinaryRuns.{AnswersOrdinaryRun, HasOrdinaryNumbers, IsDoneBy, IsUnrefused, KeepsOrdinaryBaseOf, LeavesOrdinaryBaseOf, LeavesOrdinaryTreesOf, TellsOrdinaryRun};
 ghost use Rattle.bisync_run.specs.ResyncEnds.{IsResyncEnd};
-ghost use Rattle.bisync_run.specs.ResyncRuns.{AnswersRun, AreSetAsideBy, HasNoRefusal, IsResyncedBy, HasNumbers, LeavesBaseOf, LeavesTreesOf, TellsRun, LeavesLock, but_run};
+ghost use Rattle.bisync_run.specs.ResyncRuns.{HasOutcomeOf, LeavesMixOf, AnswersRun, AreSetAsideBy, HasNoRefusal, IsResyncedBy, HasNumbers, LeavesBaseOf, LeavesTreesOf, TellsRun, LeavesLock, but_run};
 ghost use Rattle.bisync_run.specs.Sides.{compare_in};
 
 use crate::closing::close;
@@ -54,11 +55,13 @@ pub fn run_to_close<A: Remote, B: Remote, W: Work, C: Clock, S: Sink>(
         IsResyncedBy mode opts.now limits.now (W.state work.old).folder (by_side (A.state one.old) (B.state two.old)) (W.state work.new).folder (by_side (A.state one.new) (B.state two.new)) }
     ensures set_aside { (mode : Prefer) → opts.now.resync ≡ Some mode → IsTrue W.tells → opts.now.dry_run ≡ false → is_after_good result ≡ true → AreSetAsideBy opts.now (W.state work.old).folder (W.state work.new).folder }
     ensures only { (mode : Prefer) → opts.now.resync ≡ Some mode → IsResyncEnd opts.now result }
-    ensures numbers { (mode : Prefer) → opts.now.resync ≡ Some mode → IsTrue A.tells → IsTrue B.tells → IsTrue W.tells → is_good result ≡ true → HasNumbers mode opts.now (W.state work.old).folder (by_side (A.state one.old) (B.state two.old)) result }
+    ensures numbers { (mode : Prefer) → opts.now.resync ≡ Some mode → IsTrue A.tells → IsTrue B.tells → KnowsRules W.tells opts.now.filters → is_good result ≡ true → HasNumbers mode opts.now (W.state work.old).folder (by_side (A.state one.old) (B.state two.old)) result }
     ensures base { (mode : Prefer) → opts.now.resync ≡ Some mode → IsTrue A.tells → IsTrue B.tells → IsTrue W.tells →
         LeavesBaseOf mode opts.now limits.now (W.state work.old).folder (by_side (A.state one.old) (B.state two.old)) (W.state work.new).folder (by_side (A.state one.new) (B.state two.new)) }
     ensures trees { (mode : Prefer) → opts.now.resync ≡ Some mode → IsTrue A.tells → IsTrue B.tells → IsTrue W.tells →
         LeavesTreesOf mode opts.now limits.now (W.state work.old).folder (by_side (A.state one.old) (B.state two.old)) C.tells (C.moment clock.old) (by_side (A.state one.new) (B.state two.new)) }
+    ensures mixed { (mode : Prefer) → opts.now.resync ≡ Some mode → IsTrue A.tells → IsTrue B.tells → KnowsRules W.tells opts.now.filters → LeavesMixOf mode opts.now (W.state work.old).folder (by_side (A.state one.old) (B.state two.old)) (by_side (A.state one.new) (B.state two.new)) }
+    ensures outcome { (mode : Prefer) → opts.now.resync ≡ Some mode → IsTrue A.tells → IsTrue B.tells → KnowsRules W.tells opts.now.filters → opts.now.dry_run ≡ false → is_after_good result ≡ true → HasOutcomeOf mode opts.now (W.state work.old).folder (by_side (A.state one.old) (B.state two.old)) (by_side (A.state one.new) (B.state two.new)) }
     ensures run_answers { opts.now.resync ≡ None → IsTrue A.tells → IsTrue B.tells → IsTrue W.tells →
         AnswersOrdinaryRun opts.now limits.now (W.state work.old).folder (by_side (A.state one.old) (B.state two.old)) C.tells (C.moment clock.old) result }
     ensures unrefused { opts.now.resync ≡ None → IsTrue A.tells → IsTrue B.tells → IsTrue W.tells → is_after_good result ≡ true →
@@ -118,7 +121,7 @@ pub fn run_to_close<A: Remote, B: Remote, W: Work, C: Clock, S: Sink>(
     ensures quiet { IsTrue S.tells → (Rose (S.state sink.old).faults (S.state sink.new).faults → ⊥) → may_tell_plan result ≡ false → (S.state sink.new).bytes ≡ (S.state sink.old).bytes }
     ensures lines { IsTrue S.tells → (lines : List ℕ) × ((S.state sink.new).bytes ≡ (S.state sink.old).bytes ++ lines) }
     ensures built { result ≢ End.NotBuilt }
-    ensures report { (mode : Prefer) → opts.now.resync ≡ Some mode → IsTrue A.tells → IsTrue B.tells → IsTrue S.tells → IsTrue W.tells →
+    ensures report { (mode : Prefer) → opts.now.resync ≡ Some mode → IsTrue A.tells → IsTrue B.tells → IsTrue S.tells → KnowsRules W.tells opts.now.filters →
         TellsRun mode opts.now (W.state work.old).folder (by_side (A.state one.old) (B.state two.old)) (by_side (A.state one.new) (B.state two.new)) (S.state sink.old).bytes [] (S.state sink.new).bytes result }
     ensures run_report { opts.now.resync ≡ None → IsTrue A.tells → IsTrue B.tells → IsTrue W.tells → IsTrue S.tells →
         TellsOrdinaryRun opts.now limits.now (W.state work.old).folder (by_side (A.state one.old) (B.state two.old)) (by_side (A.state one.new) (B.state two.new)) (S.state sink.old).bytes [] (S.state sink.new).bytes result }

@@ -8,7 +8,7 @@ ghost use Rattle.bisync_work.specs.LockTexts.{expiry_of, lock_text};
 ghost use Rattle.bisync_run.specs.Counts.{counts, HasCauses};
 ghost use Rattle.bisync_run.specs.EndKinds.{is_before_lock};
 ghost use Rattle.bisync_run.specs.Entering.{AtMoment, IsEntryEnd, IsHeldBack, IsRulesEnd, IsNoLock, session_of};
-ghost use Rattle.bisync_run.specs.FilterRules.{AreRulesOf};
+ghost use Rattle.bisync_run.specs.FilterRules.{AreRulesOf, KnowsRules};
 ghost use Rattle.bisync_run.specs.LeftNames.{IsOwnLock};
 ghost use Rattle.bisync_run.specs.LockNew.{KeepsLockNew};
 ghost use Rattle.bisync_run.specs.ResyncEnds.{IsUnlockedEnd};
@@ -53,7 +53,7 @@ pub fn enter<W: Work, C: Clock>(
     clock: &mut C,
 ) -> Result<Entered, End>
     requires { IsLongEnough opts.now.max_lock }
-    ensures rules { IsTrue W.tells → IfOk result (λ entered. AreRulesOf opts.now.filters (W.state work.old).folder.filters entered.rules entered.digest) }
+    ensures rules { KnowsRules W.tells opts.now.filters → IfOk result (λ entered. AreRulesOf opts.now.filters (W.state work.old).folder.filters entered.rules entered.digest) }
     ensures unfiltered { opts.now.filters ≡ None → IfOk result (λ entered. entered.digest ≡ None) }
     ensures free { IsTrue W.tells → OnOk result (AtMoment C.tells (C.moment clock.old) (λ now. IsFree now (W.state work.old).folder.lock)) }
     ensures entry { IsTrue W.tells → IfErr result (IsEntryEnd opts.now.filters (W.state work.old).folder C.tells (C.moment clock.old)) }
@@ -99,7 +99,7 @@ fn rules_of<W: Work>(
     opts: &Opts,
     work: &mut W,
 ) -> Result<(Rules, Option<[u8; 16]>), End>
-    ensures rules { IsTrue W.tells → IfOk result (λ read. AreRulesOf opts.now.filters (W.state work.old).folder.filters read.0 read.1) }
+    ensures rules { KnowsRules W.tells opts.now.filters → IfOk result (λ read. AreRulesOf opts.now.filters (W.state work.old).folder.filters read.0 read.1) }
     ensures unfiltered { opts.now.filters ≡ None → IfOk result (λ read. read.1 ≡ None) }
     ensures refusal { IsTrue W.tells → IfErr result (IsRulesEnd opts.now.filters (W.state work.old).folder.filters) }
     ensures only { IfErr result (λ end. is_before_lock end ≡ true) }

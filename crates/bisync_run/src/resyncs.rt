@@ -17,7 +17,7 @@ ghost use Rattle.bisync_run.specs.LeftNames.{FallsAs, KeepsOwnLock, StoresDigest
 ghost use Rattle.bisync_run.specs.LockNew.{KeepsLockNew};
 ghost use Rattle.bisync_run.specs.ResyncEnds.{IsResyncEnd};
 ghost use Rattle.bisync_run.specs.ResyncRefusals.{AnswersResync, HasNoResyncRefusal};
-ghost use Rattle.bisync_run.specs.Resyncs.{IsResynced, LeavesBase, LeavesTrees};
+ghost use Rattle.bisync_run.specs.Resyncs.{HasOutcome, LeavesMix, IsResynced, LeavesBase, LeavesTrees};
 ghost use Rattle.bisync_run.specs.Sides.{compare_in, sides_of};
 
 use crate::buffers::copy_buffer;
@@ -49,6 +49,8 @@ pub fn resync<A: Remote, B: Remote, W: Work, C: Clock, S: Sink>(
         LeavesBase mode limits.now (W.state work.old).folder (sides_of opts.now.compare entered.now.rules (A.state one.old) (B.state two.old)) (by_side (A.state one.old) (B.state two.old)) (W.state work.new).folder (by_side (A.state one.new) (B.state two.new)) }
     ensures trees { IsTrue A.tells → IsTrue B.tells → IsTrue W.tells →
         LeavesTrees mode limits.now (W.state work.old).folder (sides_of opts.now.compare entered.now.rules (A.state one.old) (B.state two.old)) (by_side (A.state one.old) (B.state two.old)) (by_side (A.state one.new) (B.state two.new)) }
+    ensures mixed { IsTrue A.tells → IsTrue B.tells → LeavesMix mode (sides_of opts.now.compare entered.now.rules (A.state one.old) (B.state two.old)) (by_side (A.state one.old) (B.state two.old)) (by_side (A.state one.new) (B.state two.new)) }
+    ensures outcome { IsTrue A.tells → IsTrue B.tells → opts.now.dry_run ≡ false → OnOk result (HasOutcome mode (sides_of opts.now.compare entered.now.rules (A.state one.old) (B.state two.old)) (by_side (A.state one.old) (B.state two.old)) (by_side (A.state one.new) (B.state two.new))) }
     ensures settled { IsTrue W.tells → IsSettled (W.state work.old).folder → IsSettled (W.state work.new).folder }
     ensures rest { IsTrue W.tells → but_carried (W.state work.new).folder ≡ but_carried (W.state work.old).folder }
     ensures resynced { IsTrue A.tells → IsTrue B.tells → IsTrue W.tells → opts.now.dry_run ≡ false → OnOk result

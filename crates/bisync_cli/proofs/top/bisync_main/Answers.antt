@@ -183,3 +183,12 @@ returns-in-Err-Usage-clause-blocked g c work = blocked_same (g.W.Work.state c.ar
 
 pub returns-in-Err-OutOfMemory-clause-blocked : goal.returns-in-Err-OutOfMemory-clause-blocked
 returns-in-Err-OutOfMemory-clause-blocked g c work = blocked_same (g.W.Work.state c.args.work.now).folder _ g.C.Clock.tells (g.C.Clock.moment c.args.clock.now) refl
+
+pub returns-clause-own_lock : goal.returns-clause-own_lock
+returns-clause-own_lock g c = of_run _ _ _ _ c.in-Ok-Run.ensures.read.ok c.in-Ok-Run.field-0-is c.run-end.ensures.own_lock
+
+pub returns-clause-digest_late : goal.returns-clause-digest_late
+returns-clause-digest_late g c = of_run _ _ _ _ c.in-Ok-Run.ensures.read.ok c.in-Ok-Run.field-0-is c.run-end.ensures.digest_late
+
+pub returns-clause-set_back : goal.returns-clause-set_back
+returns-clause-set_back g c = of_run _ _ _ _ c.in-Ok-Run.ensures.read.ok c.in-Ok-Run.field-0-is c.run-end.ensures.set_back

@@ -88,7 +88,7 @@ pub returns-clause-answers : goal.returns-clause-answers
 returns-clause-answers g c mode mode_is one two work =
     let a = g.A.Remote.state c.args.one.now in let b = g.B.Remote.state c.args.two.now in let s = sides_of c.args.opts.now.compare c.in-Ok.entered.rules a b in
     let f = (g.W.Work.state c.args.work.now).folder in let f2 = (g.W.Work.state c.enter.new.work).folder in let changes = c.in-Ok.ensures.others work in
-    let m : Matter c.args.opts.now f (by_side a b) = record { rules = c.in-Ok.entered.rules; digest = c.in-Ok.entered.digest; are = c.in-Ok.ensures.rules work } in
+    let m : Matter c.args.opts.now f (by_side a b) = record { rules = c.in-Ok.entered.rules; digest = c.in-Ok.entered.digest; are = c.in-Ok.ensures.rules (inl work) } in
     inr (
       c.in-Ok.ensures.free work,
       (
@@ -101,13 +101,13 @@ returns-clause-answers g c mode mode_is one two work =
 
 pub returns-clause-accepted : goal.returns-clause-accepted
 returns-clause-accepted g c mode mode_is one two work good =
-    let f = (g.W.Work.state c.args.work.now).folder in let m : Matter c.args.opts.now f _ = record { rules = c.in-Ok.entered.rules; digest = c.in-Ok.entered.digest; are = c.in-Ok.ensures.rules work } in
+    let f = (g.W.Work.state c.args.work.now).folder in let m : Matter c.args.opts.now f _ = record { rules = c.in-Ok.entered.rules; digest = c.in-Ok.entered.digest; are = c.in-Ok.ensures.rules (inl work) } in
     let ok = after_good_was_ok _ _ c.held-ended.result c.close.result c.held-ended.ensures.causes.fault c.close.ensures.end good in
     (c.in-Ok.ensures.free work, (m, none_before mode c.args.limits.now f _ (c.in-Ok.ensures.others work) _ (on_ok c.held-ended.result ok (c.held-ended.ensures.accepted mode mode_is one two work))))
 
 pub returns-clause-resynced : goal.returns-clause-resynced
 returns-clause-resynced g c mode mode_is one two work dry good =
-    let f = (g.W.Work.state c.args.work.now).folder in let m : Matter c.args.opts.now f _ = record { rules = c.in-Ok.entered.rules; digest = c.in-Ok.entered.digest; are = c.in-Ok.ensures.rules work } in
+    let f = (g.W.Work.state c.args.work.now).folder in let m : Matter c.args.opts.now f _ = record { rules = c.in-Ok.entered.rules; digest = c.in-Ok.entered.digest; are = c.in-Ok.ensures.rules (inl work) } in
     let ok = after_good_was_ok _ _ c.held-ended.result c.close.result c.held-ended.ensures.causes.fault c.close.ensures.end good in (
       m,
       done_unlocked mode c.args.limits.now _ _ _ c.in-Ok.entered.digest f _ _ (c.in-Ok.ensures.others work)
@@ -124,14 +124,14 @@ returns-clause-numbers g c mode mode_is one two work good =
 
 pub returns-clause-base : goal.returns-clause-base
 returns-clause-base g c mode mode_is one two work base is =
-    let f = (g.W.Work.state c.args.work.now).folder in let m : Matter c.args.opts.now f _ = record { rules = c.in-Ok.entered.rules; digest = c.in-Ok.entered.digest; are = c.in-Ok.ensures.rules work } in
+    let f = (g.W.Work.state c.args.work.now).folder in let m : Matter c.args.opts.now f _ = record { rules = c.in-Ok.entered.rules; digest = c.in-Ok.entered.digest; are = c.in-Ok.ensures.rules (inl work) } in
     ⊎_elim inl (λ other. inr (⊎_elim inl (λ made. inr (m, made)) other))
     (base_unlocked mode c.args.limits.now _ _ _ f _ _ (c.in-Ok.ensures.others work)
     (base_closed mode c.args.limits.now _ _ _ _ _ _ (c.held-ended.ensures.base mode mode_is one two work) (c.close.ensures.closes work)) base is)
 
 pub returns-clause-trees : goal.returns-clause-trees
 returns-clause-trees g c mode mode_is one two work =
-    let f = (g.W.Work.state c.args.work.now).folder in let m : Matter c.args.opts.now f _ = record { rules = c.in-Ok.entered.rules; digest = c.in-Ok.entered.digest; are = c.in-Ok.ensures.rules work } in
+    let f = (g.W.Work.state c.args.work.now).folder in let m : Matter c.args.opts.now f _ = record { rules = c.in-Ok.entered.rules; digest = c.in-Ok.entered.digest; are = c.in-Ok.ensures.rules (inl work) } in
     ⊎_elim inl (λ some. inr (c.in-Ok.ensures.free work, (m, inr (none_before mode c.args.limits.now f _ (c.in-Ok.ensures.others work) _ some.0, some.1))))
     (c.held-ended.ensures.trees mode mode_is one two work)
 
@@ -151,7 +151,7 @@ pub returns-clause-set_aside : goal.returns-clause-set_aside
 returns-clause-set_aside g c mode mode_is work dry good =
     let f = (g.W.Work.state c.args.work.now).folder in let f2 = (g.W.Work.state c.enter.new.work).folder in let mid = (g.W.Work.state c.held-ended.new.work).folder in
     let h = (g.W.Work.state c.close.new.work).folder in let ok = after_good_was_ok _ _ c.held-ended.result c.close.result c.held-ended.ensures.causes.fault c.close.ensures.end good in
-    aside_closed c.args.opts.now c.in-Ok.entered.rules c.in-Ok.entered.digest f f2 mid h (c.in-Ok.ensures.rules work) (c.in-Ok.ensures.others work)
+    aside_closed c.args.opts.now c.in-Ok.entered.rules c.in-Ok.entered.digest f f2 mid h (c.in-Ok.ensures.rules (inl work)) (c.in-Ok.ensures.others work)
     (on_ok c.held-ended.result ok (c.held-ended.ensures.set_aside mode mode_is work dry)) (c.close.ensures.kept work (falls_ok c.args.opts.now.resilient c.args.opts.now.dry_run c.held-ended.result ok))
 
 pub returns-clause-only : goal.returns-clause-only
@@ -188,7 +188,7 @@ returns-clause-lock_new g c work sure =
 pub returns-clause-no_digest : goal.returns-clause-no_digest
 returns-clause-no_digest g c work none =
     no_digest_closed c.args.opts.now.filters c.in-Ok.entered.rules c.in-Ok.entered.digest (g.W.Work.state c.args.work.now).folder (g.W.Work.state c.enter.new.work).folder (g.W.Work.state c.held-ended.new.work).folder
-    (g.W.Work.state c.close.new.work).folder (c.in-Ok.ensures.rules work) none (c.in-Ok.ensures.others work) (c.held-ended.ensures.no_digest work) (c.close.ensures.closes work)
+    (g.W.Work.state c.close.new.work).folder (c.in-Ok.ensures.rules (inl work)) none (c.in-Ok.ensures.others work) (c.held-ended.ensures.no_digest work) (c.close.ensures.closes work)
 
 pub returns-clause-entry : goal.returns-clause-entry
 returns-clause-entry g c work un = absurd (locked_closed c.held-ended.result c.close.result c.close.ensures.end c.held-ended.ensures.only un)
@@ -257,7 +257,7 @@ returns-in-Err-clause-run_report g c none one two work sink =
 pub returns-clause-run_answers : goal.returns-clause-run_answers
 returns-clause-run_answers g c none one two work =
     let a = g.A.Remote.state c.args.one.now in let b = g.B.Remote.state c.args.two.now in
-    let f = (g.W.Work.state c.args.work.now).folder in let m : Matter c.args.opts.now f (by_side a b) = record { rules = c.in-Ok.entered.rules; digest = c.in-Ok.entered.digest; are = c.in-Ok.ensures.rules work } in
+    let f = (g.W.Work.state c.args.work.now).folder in let m : Matter c.args.opts.now f (by_side a b) = record { rules = c.in-Ok.entered.rules; digest = c.in-Ok.entered.digest; are = c.in-Ok.ensures.rules (inl work) } in
     let s = sides_of c.args.opts.now.compare c.in-Ok.entered.rules a b in let f2 = (g.W.Work.state c.enter.new.work).folder in
     inr (
       c.in-Ok.ensures.free work,
@@ -271,7 +271,7 @@ returns-clause-run_answers g c none one two work =
 
 pub returns-clause-unrefused : goal.returns-clause-unrefused
 returns-clause-unrefused g c none one two work good =
-    let f = (g.W.Work.state c.args.work.now).folder in let m : Matter c.args.opts.now f _ = record { rules = c.in-Ok.entered.rules; digest = c.in-Ok.entered.digest; are = c.in-Ok.ensures.rules work } in
+    let f = (g.W.Work.state c.args.work.now).folder in let m : Matter c.args.opts.now f _ = record { rules = c.in-Ok.entered.rules; digest = c.in-Ok.entered.digest; are = c.in-Ok.ensures.rules (inl work) } in
     let ok = after_good_was_ok _ _ c.held-ended.result c.close.result c.held-ended.ensures.causes.fault c.close.ensures.end good in (
       c.in-Ok.ensures.free work,
       (m, unrefused_before c.args.opts.now c.args.limits.now f _ (c.in-Ok.ensures.others work) _ _ (on_ok c.held-ended.result ok (c.held-ended.ensures.unrefused none one two work))),
@@ -279,7 +279,7 @@ returns-clause-unrefused g c none one two work good =
 
 pub returns-clause-done : goal.returns-clause-done
 returns-clause-done g c none one two work dry only good =
-    let f = (g.W.Work.state c.args.work.now).folder in let m : Matter c.args.opts.now f _ = record { rules = c.in-Ok.entered.rules; digest = c.in-Ok.entered.digest; are = c.in-Ok.ensures.rules work } in
+    let f = (g.W.Work.state c.args.work.now).folder in let m : Matter c.args.opts.now f _ = record { rules = c.in-Ok.entered.rules; digest = c.in-Ok.entered.digest; are = c.in-Ok.ensures.rules (inl work) } in
     let ok = after_good_was_ok _ _ c.held-ended.result c.close.result c.held-ended.ensures.causes.fault c.close.ensures.end good in (
       m,
       run_done_closed c.args.opts.now c.args.limits.now _ c.in-Ok.entered.digest _ _ f _ _ _ (c.in-Ok.ensures.others work)
@@ -290,7 +290,7 @@ returns-clause-done g c none one two work dry only good =
 pub returns-clause-run_numbers : goal.returns-clause-run_numbers
 returns-clause-run_numbers g c none one two work good =
     let a = g.A.Remote.state c.args.one.now in let b = g.B.Remote.state c.args.two.now in
-    let f = (g.W.Work.state c.args.work.now).folder in let m : Matter c.args.opts.now f (by_side a b) = record { rules = c.in-Ok.entered.rules; digest = c.in-Ok.entered.digest; are = c.in-Ok.ensures.rules work } in
+    let f = (g.W.Work.state c.args.work.now).folder in let m : Matter c.args.opts.now f (by_side a b) = record { rules = c.in-Ok.entered.rules; digest = c.in-Ok.entered.digest; are = c.in-Ok.ensures.rules (inl work) } in
     let s = sides_of c.args.opts.now.compare c.in-Ok.entered.rules a b in
     let f2 = (g.W.Work.state c.enter.new.work).folder in (
       m,
@@ -301,21 +301,21 @@ returns-clause-run_numbers g c none one two work good =
 
 pub returns-clause-run_base : goal.returns-clause-run_base
 returns-clause-run_base g c none one two work base is =
-    let f = (g.W.Work.state c.args.work.now).folder in let m : Matter c.args.opts.now f _ = record { rules = c.in-Ok.entered.rules; digest = c.in-Ok.entered.digest; are = c.in-Ok.ensures.rules work } in
+    let f = (g.W.Work.state c.args.work.now).folder in let m : Matter c.args.opts.now f _ = record { rules = c.in-Ok.entered.rules; digest = c.in-Ok.entered.digest; are = c.in-Ok.ensures.rules (inl work) } in
     ⊎_elim inl (λ other. inr (⊎_elim inl (λ made. inr (m, made)) other))
     (run_base_closed c.args.opts.now c.args.limits.now _ c.in-Ok.entered.digest _ f _ _ _ (c.in-Ok.ensures.others work)
     (c.held-ended.ensures.run_base none one two work) (c.close.ensures.closes work) base is)
 
 pub returns-clause-resilient_base : goal.returns-clause-resilient_base
 returns-clause-resilient_base g c none one two work stays base is =
-    let f = (g.W.Work.state c.args.work.now).folder in let m : Matter c.args.opts.now f _ = record { rules = c.in-Ok.entered.rules; digest = c.in-Ok.entered.digest; are = c.in-Ok.ensures.rules work } in
+    let f = (g.W.Work.state c.args.work.now).folder in let m : Matter c.args.opts.now f _ = record { rules = c.in-Ok.entered.rules; digest = c.in-Ok.entered.digest; are = c.in-Ok.ensures.rules (inl work) } in
     ⊎_elim inl (λ made. inr (m, made))
     (base_kept c.args.opts.now c.args.limits.now _ c.in-Ok.entered.digest _ f _ _ _ (c.in-Ok.ensures.others work) (c.held-ended.ensures.run_base none one two work)
     (c.close.ensures.kept work (falls_resilient c.args.opts.now.resilient c.args.opts.now.dry_run c.held-ended.result stays)) base is)
 
 pub returns-clause-run_trees : goal.returns-clause-run_trees
 returns-clause-run_trees g c none one two work =
-    let f = (g.W.Work.state c.args.work.now).folder in let m : Matter c.args.opts.now f _ = record { rules = c.in-Ok.entered.rules; digest = c.in-Ok.entered.digest; are = c.in-Ok.ensures.rules work } in
+    let f = (g.W.Work.state c.args.work.now).folder in let m : Matter c.args.opts.now f _ = record { rules = c.in-Ok.entered.rules; digest = c.in-Ok.entered.digest; are = c.in-Ok.ensures.rules (inl work) } in
     ⊎_elim inl
     (λ way. inr (c.in-Ok.ensures.free work, (m, way_before c.args.opts.now c.args.limits.now _ c.in-Ok.entered.digest _ f _ (c.in-Ok.ensures.others work) way)))
     (c.held-ended.ensures.run_trees none one two work)
@@ -330,7 +330,7 @@ returns-clause-only_run g c none = ordinary_closed c.args.opts.now _ c.held-ende
 
 pub returns-clause-run_report : goal.returns-clause-run_report
 returns-clause-run_report g c none one two work sink =
-    let f = (g.W.Work.state c.args.work.now).folder in let m : Matter c.args.opts.now f _ = record { rules = c.in-Ok.entered.rules; digest = c.in-Ok.entered.digest; are = c.in-Ok.ensures.rules work } in
+    let f = (g.W.Work.state c.args.work.now).folder in let m : Matter c.args.opts.now f _ = record { rules = c.in-Ok.entered.rules; digest = c.in-Ok.entered.digest; are = c.in-Ok.ensures.rules (inl work) } in
     run_tells_closed c.args.opts.now c.args.limits.now f _ (c.in-Ok.ensures.others work) _ _ m
     (g.S.Sink.state c.args.sink.now).bytes (g.S.Sink.state c.held-ended.new.sink).bytes _ _ c.held-ended.result c.close.result
     c.held-ended.ensures.well c.held-ended.ensures.causes.fault c.close.ensures.end (c.held-ended.ensures.run_report none one two work sink)
@@ -351,7 +351,7 @@ pub returns-in-Err-clause-entered : goal.returns-in-Err-clause-entered
 returns-in-Err-clause-entered g c work later = false_true (sym later ∙ c.in-Err.ensures.only)
 
 pub returns-clause-entered : goal.returns-clause-entered
-returns-clause-entered g c work later = (c.in-Ok.ensures.free work, (c.in-Ok.entered.rules, c.in-Ok.entered.digest, c.in-Ok.ensures.rules work))
+returns-clause-entered g c work later = (c.in-Ok.ensures.free work, (c.in-Ok.entered.rules, c.in-Ok.entered.digest, c.in-Ok.ensures.rules (inl work)))
 
 pub returns-in-Err-clause-fell : goal.returns-in-Err-clause-fell
 returns-in-Err-clause-fell g c work fell never =
@@ -377,7 +377,7 @@ pub returns-clause-begins : goal.returns-clause-begins
 returns-clause-begins g c none work =
     let f = (g.W.Work.state c.args.work.now).folder in let f2 = (g.W.Work.state c.enter.new.work).folder in
     let s = sides_of c.args.opts.now.compare c.in-Ok.entered.rules (g.A.Remote.state c.args.one.now) (g.B.Remote.state c.args.two.now) in
-    let m : Matter c.args.opts.now f _ = record { rules = c.in-Ok.entered.rules; digest = c.in-Ok.entered.digest; are = c.in-Ok.ensures.rules work } in
+    let m : Matter c.args.opts.now f _ = record { rules = c.in-Ok.entered.rules; digest = c.in-Ok.entered.digest; are = c.in-Ok.ensures.rules (inl work) } in
     inr (
       c.in-Ok.ensures.free work,
       (
@@ -392,7 +392,7 @@ pub returns-clause-begun : goal.returns-clause-begun
 returns-clause-begun g c none work good =
     let f = (g.W.Work.state c.args.work.now).folder in let f2 = (g.W.Work.state c.enter.new.work).folder in
     let s = sides_of c.args.opts.now.compare c.in-Ok.entered.rules (g.A.Remote.state c.args.one.now) (g.B.Remote.state c.args.two.now) in
-    let m : Matter c.args.opts.now f _ = record { rules = c.in-Ok.entered.rules; digest = c.in-Ok.entered.digest; are = c.in-Ok.ensures.rules work } in
+    let m : Matter c.args.opts.now f _ = record { rules = c.in-Ok.entered.rules; digest = c.in-Ok.entered.digest; are = c.in-Ok.ensures.rules (inl work) } in
     let ok = after_good_was_ok _ _ c.held-ended.result c.close.result c.held-ended.ensures.causes.fault c.close.ensures.end good in (
       c.in-Ok.ensures.free work,
       (m, well_before c.args.opts.now c.args.limits.now f f2 (c.in-Ok.ensures.others work) s c.in-Ok.entered.digest (on_ok c.held-ended.result ok (c.held-ended.ensures.begun none work))),
@@ -408,7 +408,7 @@ returns-in-Err-clause-folder_next g c work writes good = absurd (unlocked_not_af
 pub returns-clause-folder_base : goal.returns-clause-folder_base
 returns-clause-folder_base g c work =
     let f = (g.W.Work.state c.args.work.now).folder in let start = by_side (g.A.Remote.state c.args.one.now) (g.B.Remote.state c.args.two.now) in
-    let m : Matter c.args.opts.now f start = record { rules = c.in-Ok.entered.rules; digest = c.in-Ok.entered.digest; are = c.in-Ok.ensures.rules work } in
+    let m : Matter c.args.opts.now f start = record { rules = c.in-Ok.entered.rules; digest = c.in-Ok.entered.digest; are = c.in-Ok.ensures.rules (inl work) } in
     folder_base_closed c.args.opts.now c.args.limits.now start f (g.W.Work.state c.enter.new.work).folder (g.W.Work.state c.held-ended.new.work).folder (g.W.Work.state c.close.new.work).folder
     (c.in-Ok.ensures.others work) m c.held-ended.result c.close.result c.close.ensures.end (c.held-ended.ensures.folder_base work) (c.close.ensures.closes work) (c.close.ensures.kept work)
 
@@ -447,3 +447,18 @@ returns-in-Err-clause-unlocked g c work un = c.in-Err.ensures.kept work (λ is. 
 
 pub returns-clause-unlocked : goal.returns-clause-unlocked
 returns-clause-unlocked g c work un = absurd (locked_closed c.held-ended.result c.close.result c.close.ensures.end c.held-ended.ensures.only un)
+
+pub returns-in-Err-clause-mixed : goal.returns-in-Err-clause-mixed
+returns-in-Err-clause-mixed g c mode mode_is one two known = inl (untouched_same (by_side (g.A.Remote.state c.args.one.now) (g.B.Remote.state c.args.two.now)))
+
+pub returns-clause-mixed : goal.returns-clause-mixed
+returns-clause-mixed g c mode mode_is one two known =
+    ⊎_elim inl (λ mix. inr (record { rules = c.in-Ok.entered.rules; digest = c.in-Ok.entered.digest; are = c.in-Ok.ensures.rules known }, mix)) (c.held-ended.ensures.mixed mode mode_is one two)
+
+pub returns-in-Err-clause-outcome : goal.returns-in-Err-clause-outcome
+returns-in-Err-clause-outcome g c mode mode_is one two known dry good = absurd (unlocked_not_after_good c.args.opts.now.filters c.in-Err.end c.in-Err.ensures.kind good)
+
+pub returns-clause-outcome : goal.returns-clause-outcome
+returns-clause-outcome g c mode mode_is one two known dry good =
+    let ok = after_good_was_ok _ _ c.held-ended.result c.close.result c.held-ended.ensures.causes.fault c.close.ensures.end good in
+    (record { rules = c.in-Ok.entered.rules; digest = c.in-Ok.entered.digest; are = c.in-Ok.ensures.rules known }, on_ok c.held-ended.result ok (c.held-ended.ensures.outcome mode mode_is one two dry))

@@ -3,7 +3,7 @@ use Rattle.bisync_device.specs.WorkFolder.{WorkFolder}
 use Rattle.bisync_tree.specs.declared.options.Prefer.{Prefer}
 use Rattle.bisync_model.specs.Trees.{by_side}
 use Rattle.bisync_run.specs.HeldResyncs.{TellsPlan, end_of}
-use Rattle.bisync_run.specs.Resyncs.{IsResynced, LeavesBase, LeavesTrees}
+use Rattle.bisync_run.specs.Resyncs.{HasOutcome, IsResynced, LeavesBase, LeavesMix, LeavesTrees}
 use Rattle.bisync_run.specs.Sides.{sides_of}
 use Rattle.bisync_run.proofs.FolderBases.{map_ok, ordinary_leaves, resync_in_place, resync_leaves}
 use Rattle.bisync_run.proofs.ToldEnds.{some_same}
@@ -66,3 +66,19 @@ returns-in-None-clause-folder_next g c work writes =
 
 pub returns-in-None-clause-digest_late : goal.returns-in-None-clause-digest_late
 returns-in-None-clause-digest_late g c work = inl (ap (λ (w : WorkFolder). w.filters_md5) (c.ordinary.ensures.rest work))
+
+-- # What both sides alone tell
+
+pub returns-in-Some-clause-mixed : goal.returns-in-Some-clause-mixed
+returns-in-Some-clause-mixed g c mode is one two =
+    let a = g.A.Remote.state c.args.one.now in let b = g.B.Remote.state c.args.two.now in
+    let now = by_side (g.A.Remote.state c.resync.new.one) (g.B.Remote.state c.resync.new.two) in
+    subst (λ (m : Prefer). LeavesMix m (sides_of c.args.opts.now.compare c.args.entered.now.rules a b) (by_side a b) now)
+    (some_same c.in-Some.mode mode (sym c.in-Some.is ∙ is)) (c.resync.ensures.mixed one two)
+
+pub returns-in-Some-clause-outcome : goal.returns-in-Some-clause-outcome
+returns-in-Some-clause-outcome g c mode is one two dry =
+    let a = g.A.Remote.state c.args.one.now in let b = g.B.Remote.state c.args.two.now in
+    let now = by_side (g.A.Remote.state c.resync.new.one) (g.B.Remote.state c.resync.new.two) in
+    subst (λ (m : Prefer). OnOk c.resync.result (HasOutcome m (sides_of c.args.opts.now.compare c.args.entered.now.rules a b) (by_side a b) now))
+    (some_same c.in-Some.mode mode (sym c.in-Some.is ∙ is)) (c.resync.ensures.outcome one two dry)

@@ -1,4 +1,4 @@
-use Rattle.std.proofs.Common.{ap, refl}
+use Rattle.std.proofs.Common.{ap, inl, refl}
 use Rattle.bisync_model.specs.Trees.{by_side}
 use Rattle.bisync_run.specs.Counts.{Counts, counts}
 use Rattle.bisync_run.specs.Grounds.{HasGrounds, IsTold}
@@ -16,7 +16,7 @@ returns-clause-look g c one two work =
     let start = by_side (g.A.Remote.state c.args.one.now) (g.B.Remote.state c.args.two.now) in
     let f = (g.W.Work.state c.args.work.now).folder in
     let f2 = (g.W.Work.state c.enter.new.work).folder in
-    let m : Matter c.args.opts.now f start = record { rules = c.in-Ok.entered.rules; digest = c.in-Ok.entered.digest; are = c.in-Ok.ensures.rules work } in
+    let m : Matter c.args.opts.now f start = record { rules = c.in-Ok.entered.rules; digest = c.in-Ok.entered.digest; are = c.in-Ok.ensures.rules (inl work) } in
     look_closed c.args.opts.now c.args.limits.now f f2 (c.in-Ok.ensures.others work) start g.C.Clock.tells (g.C.Clock.moment c.args.clock.now) (c.in-Ok.ensures.free work) m
     c.look_held-looked.result c.unlock.result c.unlock.ensures.end (c.look_held-looked.ensures.look one two work)
 
@@ -25,7 +25,7 @@ returns-clause-refusal g c one two work =
     let start = by_side (g.A.Remote.state c.args.one.now) (g.B.Remote.state c.args.two.now) in
     let f = (g.W.Work.state c.args.work.now).folder in
     let f2 = (g.W.Work.state c.enter.new.work).folder in
-    let m : Matter c.args.opts.now f start = record { rules = c.in-Ok.entered.rules; digest = c.in-Ok.entered.digest; are = c.in-Ok.ensures.rules work } in
+    let m : Matter c.args.opts.now f start = record { rules = c.in-Ok.entered.rules; digest = c.in-Ok.entered.digest; are = c.in-Ok.ensures.rules (inl work) } in
     end_closed c.args.opts.now c.args.limits.now f f2 (c.in-Ok.ensures.others work) start g.C.Clock.tells (g.C.Clock.moment c.args.clock.now) (c.in-Ok.ensures.free work) m
     c.look_held-looked.result c.unlock.result c.unlock.ensures.end (c.look_held-looked.ensures.refusal one two work)
 
@@ -61,7 +61,7 @@ returns-clause-begins g c work =
     let start = by_side (g.A.Remote.state c.args.one.now) (g.B.Remote.state c.args.two.now) in
     let f = (g.W.Work.state c.args.work.now).folder in
     let f2 = (g.W.Work.state c.enter.new.work).folder in
-    let m : Matter c.args.opts.now f start = record { rules = c.in-Ok.entered.rules; digest = c.in-Ok.entered.digest; are = c.in-Ok.ensures.rules work } in
+    let m : Matter c.args.opts.now f start = record { rules = c.in-Ok.entered.rules; digest = c.in-Ok.entered.digest; are = c.in-Ok.ensures.rules (inl work) } in
     begins_freed c.args.opts.now c.args.limits.now f f2 (c.in-Ok.ensures.others work) start g.C.Clock.tells (g.C.Clock.moment c.args.clock.now) (c.in-Ok.ensures.free work) m
     c.look_held-looked.result c.unlock.result c.unlock.ensures.end (c.look_held-looked.ensures.begins work)
 
@@ -70,7 +70,7 @@ returns-clause-begun g c work =
     let start = by_side (g.A.Remote.state c.args.one.now) (g.B.Remote.state c.args.two.now) in
     let f = (g.W.Work.state c.args.work.now).folder in
     let f2 = (g.W.Work.state c.enter.new.work).folder in
-    let m : Matter c.args.opts.now f start = record { rules = c.in-Ok.entered.rules; digest = c.in-Ok.entered.digest; are = c.in-Ok.ensures.rules work } in
+    let m : Matter c.args.opts.now f start = record { rules = c.in-Ok.entered.rules; digest = c.in-Ok.entered.digest; are = c.in-Ok.ensures.rules (inl work) } in
     begun_freed c.args.opts.now c.args.limits.now f f2 (c.in-Ok.ensures.others work) start g.C.Clock.tells (g.C.Clock.moment c.args.clock.now) (c.in-Ok.ensures.free work) m
     c.look_held-looked.result c.unlock.result c.unlock.ensures.end (c.look_held-looked.ensures.begun work)
 

@@ -7,7 +7,7 @@ use Rattle.bisync_run.proofs.BasesSetBack.{late_held}
 use Rattle.bisync_run.proofs.DoneSteps.{looked_told}
 use Rattle.bisync_run.proofs.EndCases.{device_answers, step_may_change, told_device}
 use Rattle.bisync_run.proofs.FolderBases.{carried_in_place, lost_or_next}
-use Rattle.bisync_run.proofs.HeldLaws.{untouched, same_windows, looked_base, are_within, aside_held, base_held, done_held, trees_held, finds_held, lines_held, numbers_held}
+use Rattle.bisync_run.proofs.HeldLaws.{untouched, same_windows, looked_base, are_within, aside_held, base_held, done_held, trees_held, mix_held, outcome_held, finds_held, lines_held, numbers_held}
 use Rattle.bisync_run.proofs.OwnLocks.{own_around}
 use Rattle.bisync_run.proofs.ToldGrounds.{step_told}
 use Rattle.bisync_run.proofs.resyncs.resync.Goals as goal
@@ -223,3 +223,35 @@ returns-clause-digest_late g c work =
     let fits = are_within c.args.limits.now c.in-Ok.prepared c.in-Ok.ensures.within1 c.in-Ok.ensures.within2 in
     late_held c.args.limits.now _ (g.W.Work.state c.args.work.now).folder (g.W.Work.state c.look_resync.new.work).folder (c.in-Ok.ensures.folder work) c.in-Ok.prepared c.in-Ok.ensures.compare (c.in-Ok.ensures.new_stamp work) (g.W.Work.state c.carry_out.new.work).folder
     (c.in-Err-carry_out.ensures.digest_late work c.args.limits.now.listing (omega arith) fits)
+
+-- # What both sides alone tell
+
+pub returns-in-Ok-carry_out-clause-mixed : goal.returns-in-Ok-carry_out-clause-mixed
+returns-in-Ok-carry_out-clause-mixed g c one two =
+    let a = g.A.Remote.state c.args.one.now in let b = g.B.Remote.state c.args.two.now in
+    let a2 = g.A.Remote.state c.look_resync.new.one in let b2 = g.B.Remote.state c.look_resync.new.two in
+    let looked = untouched a b a2 b2 (c.in-Ok.ensures.one.tree one) (c.in-Ok.ensures.two.tree two) in
+    let windows = same_windows a b a2 b2 c.in-Ok.ensures.one.window c.in-Ok.ensures.two.window in
+    let f = (g.W.Work.state c.args.work.now).folder in
+    mix_held c.args.mode c.args.limits.now c.args.opts.now.compare c.args.entered.now.rules a b a2 b2 f f c.in-Ok.prepared (c.in-Ok.ensures.plan one two) looked windows refl
+    (by_side (g.A.Remote.state c.carry_out.new.one) (g.B.Remote.state c.carry_out.new.two)) (c.in-Ok-carry_out.ensures.part one two)
+
+pub returns-clause-mixed : goal.returns-clause-mixed
+returns-clause-mixed g c one two =
+    let a = g.A.Remote.state c.args.one.now in let b = g.B.Remote.state c.args.two.now in
+    let a2 = g.A.Remote.state c.look_resync.new.one in let b2 = g.B.Remote.state c.look_resync.new.two in
+    let looked = untouched a b a2 b2 (c.in-Ok.ensures.one.tree one) (c.in-Ok.ensures.two.tree two) in
+    let windows = same_windows a b a2 b2 c.in-Ok.ensures.one.window c.in-Ok.ensures.two.window in
+    let f = (g.W.Work.state c.args.work.now).folder in
+    mix_held c.args.mode c.args.limits.now c.args.opts.now.compare c.args.entered.now.rules a b a2 b2 f f c.in-Ok.prepared (c.in-Ok.ensures.plan one two) looked windows refl
+    (by_side (g.A.Remote.state c.carry_out.new.one) (g.B.Remote.state c.carry_out.new.two)) (c.in-Err-carry_out.ensures.part one two)
+
+pub returns-in-Ok-carry_out-clause-outcome : goal.returns-in-Ok-carry_out-clause-outcome
+returns-in-Ok-carry_out-clause-outcome g c one two dry =
+    let a = g.A.Remote.state c.args.one.now in let b = g.B.Remote.state c.args.two.now in
+    let a2 = g.A.Remote.state c.look_resync.new.one in let b2 = g.B.Remote.state c.look_resync.new.two in
+    let looked = untouched a b a2 b2 (c.in-Ok.ensures.one.tree one) (c.in-Ok.ensures.two.tree two) in
+    let windows = same_windows a b a2 b2 c.in-Ok.ensures.one.window c.in-Ok.ensures.two.window in
+    let f = (g.W.Work.state c.args.work.now).folder in
+    outcome_held c.args.mode c.args.limits.now c.args.opts.now.compare c.args.entered.now.rules a b a2 b2 f f c.in-Ok.prepared (c.in-Ok.ensures.plan one two) looked windows refl
+    (by_side (g.A.Remote.state c.carry_out.new.one) (g.B.Remote.state c.carry_out.new.two)) (c.in-Ok-carry_out.ensures.done one two)

@@ -23,7 +23,7 @@ use Rattle.bisync_run.proofs.ToldGrounds.{last_told}
 use Rattle.bisync_run.proofs.runs.run.Goals as goal
 
 pub returns-clause-answers : goal.returns-clause-answers
-returns-clause-answers g c one two work mode is =
+returns-clause-answers g c mode is one two work =
     let f = (g.W.Work.state c.args.work.now).folder in
     let start = by_side (g.A.Remote.state c.args.one.now) (g.B.Remote.state c.args.two.now) in
     let moment = g.C.Clock.moment c.args.clock.now in
@@ -31,14 +31,14 @@ returns-clause-answers g c one two work mode is =
     (c.run_to_close-end.ensures.answers mode is one two work) (c.run_to_close-end.ensures.accepted mode is one two work) c.tell_end.ensures.end)
 
 pub returns-clause-accepted : goal.returns-clause-accepted
-returns-clause-accepted g c one two work mode is good =
+returns-clause-accepted g c mode is one two work good =
     let f = (g.W.Work.state c.args.work.now).folder in
     let start = by_side (g.A.Remote.state c.args.one.now) (g.B.Remote.state c.args.two.now) in
     let moment = g.C.Clock.moment c.args.clock.now in
     (c.run_to_close-end.ensures.accepted mode is one two work (after_good_told c.run_to_close-end.result c.tell_end.result c.tell_end.ensures.end good))
 
 pub returns-clause-resynced : goal.returns-clause-resynced
-returns-clause-resynced g c one two work mode is dry good =
+returns-clause-resynced g c mode is one two work dry good =
     let f = (g.W.Work.state c.args.work.now).folder in
     let start = by_side (g.A.Remote.state c.args.one.now) (g.B.Remote.state c.args.two.now) in
     let h = (g.W.Work.state c.run_to_close-end.new.work).folder in
@@ -46,7 +46,7 @@ returns-clause-resynced g c one two work mode is dry good =
     (c.run_to_close-end.ensures.resynced mode is one two work dry (after_good_told c.run_to_close-end.result c.tell_end.result c.tell_end.ensures.end good))
 
 pub returns-clause-numbers : goal.returns-clause-numbers
-returns-clause-numbers g c one two work mode is good =
+returns-clause-numbers g c mode is one two work good =
     let f = (g.W.Work.state c.args.work.now).folder in
     let start = by_side (g.A.Remote.state c.args.one.now) (g.B.Remote.state c.args.two.now) in
     let told = good_told c.run_to_close-end.result c.tell_end.result c.tell_end.ensures.end good in
@@ -54,7 +54,7 @@ returns-clause-numbers g c one two work mode is good =
     (c.run_to_close-end.ensures.numbers mode is one two work (subst (λ (e : End). is_good e ≡ true) told good)))
 
 pub returns-clause-base : goal.returns-clause-base
-returns-clause-base g c one two work mode is =
+returns-clause-base g c mode is one two work =
     let f = (g.W.Work.state c.args.work.now).folder in
     let start = by_side (g.A.Remote.state c.args.one.now) (g.B.Remote.state c.args.two.now) in
     let h = (g.W.Work.state c.run_to_close-end.new.work).folder in
@@ -62,7 +62,7 @@ returns-clause-base g c one two work mode is =
     (c.run_to_close-end.ensures.base mode is one two work)
 
 pub returns-clause-images : goal.returns-clause-images
-returns-clause-images g c one two work mode is settled image image_is =
+returns-clause-images g c mode is one two work settled image image_is =
     let f = (g.W.Work.state c.args.work.now).folder in
     let start = by_side (g.A.Remote.state c.args.one.now) (g.B.Remote.state c.args.two.now) in
     let h = (g.W.Work.state c.run_to_close-end.new.work).folder in
@@ -70,7 +70,7 @@ returns-clause-images g c one two work mode is settled image image_is =
     (images mode c.args.opts.now c.args.limits.now f start h image now (c.run_to_close-end.ensures.base mode is one two work) (c.run_to_close-end.ensures.settled work settled) image_is)
 
 pub returns-clause-trees : goal.returns-clause-trees
-returns-clause-trees g c one two work mode is =
+returns-clause-trees g c mode is one two work =
     let f = (g.W.Work.state c.args.work.now).folder in
     let start = by_side (g.A.Remote.state c.args.one.now) (g.B.Remote.state c.args.two.now) in
     let h = (g.W.Work.state c.run_to_close-end.new.work).folder in
@@ -78,7 +78,7 @@ returns-clause-trees g c one two work mode is =
     (c.run_to_close-end.ensures.trees mode is one two work)
 
 pub returns-clause-set_aside : goal.returns-clause-set_aside
-returns-clause-set_aside g c work mode is dry good =
+returns-clause-set_aside g c mode is work dry good =
     c.run_to_close-end.ensures.set_aside mode is work dry (after_good_told c.run_to_close-end.result c.tell_end.result c.tell_end.ensures.end good)
 
 pub returns-clause-only : goal.returns-clause-only
@@ -161,7 +161,7 @@ pub returns-clause-built : goal.returns-clause-built
 returns-clause-built g c = told_built c.run_to_close-end.result c.tell_end.result c.run_to_close-end.ensures.built c.tell_end.ensures.end
 
 pub returns-clause-report : goal.returns-clause-report
-returns-clause-report g c one two sink work mode is never =
+returns-clause-report g c mode is one two sink work never =
     let f = (g.W.Work.state c.args.work.now).folder in
     let start = by_side (g.A.Remote.state c.args.one.now) (g.B.Remote.state c.args.two.now) in
     let h = (g.W.Work.state c.run_to_close-end.new.work).folder in
@@ -318,7 +318,7 @@ returns-clause-was_apart g c none work p first second is =
     (c.run_to_close-end.ensures.begins none work) (c.run_to_close-end.ensures.begun none work) c.tell_end.ensures.end))
 
 pub returns-clause-resync_in_sync : goal.returns-clause-resync_in_sync
-returns-clause-resync_in_sync g c one two work mode is dry good =
+returns-clause-resync_in_sync g c mode is one two work dry good =
     resync_in_sync_after mode c.args.opts.now c.args.limits.now _ _ _ _
     (c.run_to_close-end.ensures.resynced mode is one two work dry (after_good_told c.run_to_close-end.result c.tell_end.result c.tell_end.ensures.end good))
 
@@ -329,3 +329,7 @@ returns-clause-own_lock g c work =
 pub returns-clause-unlocked : goal.returns-clause-unlocked
 returns-clause-unlocked g c work un =
     c.run_to_close-end.ensures.unlocked work (ap is_unlocked (sym (unlocked_told c.run_to_close-end.result c.tell_end.result c.tell_end.ensures.end un)) ∙ un)
+
+pub returns-clause-outcome : goal.returns-clause-outcome
+returns-clause-outcome g c mode is one two known dry good =
+    c.run_to_close-end.ensures.outcome mode is one two known dry (after_good_told c.run_to_close-end.result c.tell_end.result c.tell_end.ensures.end good)
