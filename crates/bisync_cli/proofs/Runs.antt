@@ -27,10 +27,10 @@ of_run read Says task opts is asks says = subst (λ (r : Result Task UsageKind).
 
 -- an image of an untouched folder has its base, by any options
 pub images_same : (read : Result Task UsageKind) (One Two Works : Type 0) (limits : Limits) (f : WorkFolder) (start : Remotes)
-    → OfTask read (λ opts. One → Two → Works → (mode : Prefer) → opts.resync ≡ Some mode → IsSettled f → (image : WorkFolder) → IsImage f image
+    → OfTask read (λ opts. (mode : Prefer) → opts.resync ≡ Some mode → One → Two → Works → IsSettled f → (image : WorkFolder) → IsImage f image
     → LeavesBaseOf mode opts limits f start image start)
 images_same (Ok (Run opts)) One Two Works limits f start =
-    λ one two work mode is settled image image_is. images mode opts limits f start f image start (λ base was. inl (was, untouched_same start)) settled image_is
+    λ mode is one two work settled image image_is. images mode opts limits f start f image start (λ base was. inl (was, untouched_same start)) settled image_is
 images_same (Ok NoTask) One Two Works limits f start = tt
 images_same (Err kind) One Two Works limits f start = tt
 

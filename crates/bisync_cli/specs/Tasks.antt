@@ -1,6 +1,7 @@
 -- What the words ask for.
 use Rattle.std.specs.Prelude.{◌≡◌, ℕ, ⊤, IsTrue, Bool, true, false, not, ◌&&◌, ◌||◌, List, [], ◌∷◌, Option, Some, None, Result, Ok, Err, codes, is_some, if◌then◌else◌}
 use Rattle.bisync_device.specs.Faults.{Rose}
+use Rattle.bisync_tree.specs.declared.options.Prefer.{Prefer}
 use Rattle.bisync_opts.specs.Choices.{chosen}
 use Rattle.bisync_opts.specs.Options.{options_of}
 use Rattle.bisync_opts.specs.Ranges.{IsInRange}
@@ -10,6 +11,8 @@ use Rattle.bisync_opts.specs.declared.faults.UsageKind.TheVariants as usage
 use Rattle.bisync_opts.specs.declared.options.CheckSync.{CheckSync}
 use Rattle.bisync_opts.specs.declared.options.CheckSync.TheVariants.{Always, Never, Only}
 use Rattle.bisync_opts.specs.declared.options.Opts.{Opts}
+use Rattle.bisync_report.specs.declared.ends.End.{End}
+use Rattle.bisync_run.specs.EndKinds.{is_after_good}
 use Rattle.bisync_cli.specs.declared.tasks.Command.{Command}
 use Rattle.bisync_cli.specs.declared.tasks.Command.TheVariants.{Bisync, Demo, Check}
 use Rattle.bisync_cli.specs.declared.tasks.Task.{Task}
@@ -76,9 +79,17 @@ OfRun words Says = OfTask (task_in words) Says
 abbrev pub OfOrdinary : List (List ℕ) → (Opts → Type 0) → Type 0
 OfOrdinary words Says = OfRun words (λ opts. opts.resync ≡ None → Says opts)
 
+-- and where it is one, by this mode
+abbrev pub OfResync : List (List ℕ) → (Opts → Prefer → Type 0) → Type 0
+OfResync words Says = OfRun words (λ opts. (mode : Prefer) → opts.resync ≡ Some mode → Says opts mode)
+
 -- what is said where both remotes and the work folder tell what they hold
 abbrev pub AllTell : Bool → Bool → Bool → Type 0 → Type 0
 AllTell one two work Says = IsTrue one → IsTrue two → IsTrue work → Says
+
+-- it is a good end, or the last line failed or the lock stayed after one
+abbrev pub AfterGood : End → Type 0
+AfterGood end = is_after_good end ≡ true
 
 -- a count didn't rise
 abbrev pub Stood : ℕ → ℕ → Type 0

@@ -3,7 +3,6 @@
 ghost use Rattle.std.specs.Prelude.{◌≡◌, ◌≢◌, ◌⊎◌, ◌++◌, ◌||◌, ℕ, List, Option, IsTrue, None, Some, true, false};
 ghost use Rattle.bisync_tree.specs.Rows.{PathBytes};
 ghost use Rattle.bisync_tree.specs.declared.entries.Entry.{Entry};
-ghost use Rattle.bisync_tree.specs.declared.options.Prefer.{Prefer};
 ghost use Rattle.bisync_model.specs.Trees.{by_side};
 ghost use Rattle.bisync_device.specs.Remote.{KeepsTree};
 ghost use Rattle.bisync_device.specs.WorkFolder.{Absent, WorkFolder, IsSettled, IsImage};
@@ -16,8 +15,9 @@ ghost use Rattle.bisync_run.specs.Agreement.{LeavesInSync, LeavesResyncInSync, W
 ghost use Rattle.bisync_run.specs.Beginnings.{AnswersBeginningOf, IsWellBegunOf};
 ghost use Rattle.bisync_run.specs.Closing.{HasNoListings, but_fallen_or_lock};
 ghost use Rattle.bisync_run.specs.Counts.{counts, Later, Ends};
-ghost use Rattle.bisync_run.specs.EndKinds.{is_good, is_after_good, has_freed, is_before_lock, is_unlocked, lets_fall, may_have_changed, may_tell_plan};
+ghost use Rattle.bisync_run.specs.EndKinds.{is_good, has_freed, is_before_lock, is_unlocked, lets_fall, may_have_changed, may_tell_plan};
 ghost use Rattle.bisync_run.specs.Entering.{AtMoment, HasSomeRules, IsEntryEnd, IsHeldBack};
+ghost use Rattle.bisync_run.specs.FilterRules.{KnowsRules};
 ghost use Rattle.bisync_run.specs.FolderBases.{LeavesFolderBase, LeavesNextInPlace, Writes, compared};
 ghost use Rattle.bisync_run.specs.Grounds.{HasGrounds, IsTold};
 ghost use Rattle.bisync_run.specs.LeftNames.{LeavesBaseSetBack, LeavesOwnLock, StoresDigestLate};
@@ -26,9 +26,9 @@ ghost use Rattle.bisync_run.specs.Ordinary.{KeepsOrdinaryRest};
 ghost use Rattle.bisync_run.specs.OrdinaryEnds.{IsOrdinaryEnd};
 ghost use Rattle.bisync_run.specs.OrdinaryRuns.{AnswersOrdinaryRun, HasOrdinaryNumbers, IsDoneBy, IsUnrefused, KeepsOrdinaryBaseOf, KeepsSafe, LeavesOrdinaryBaseOf, LeavesOrdinaryTreesOf, TellsOrdinaryRun};
 ghost use Rattle.bisync_run.specs.ResyncEnds.{IsResyncEnd};
-ghost use Rattle.bisync_run.specs.ResyncRuns.{AnswersRun, AreSetAsideBy, HasNoRefusal, IsResyncedBy, HasNumbers, LeavesBaseOf, LeavesTreesOf, TellsRun, LeavesLock, but_run};
+ghost use Rattle.bisync_run.specs.ResyncRuns.{HasOutcomeOf, LeavesMixOf, AnswersRun, AreSetAsideBy, HasNoRefusal, IsResyncedBy, HasNumbers, LeavesBaseOf, LeavesTreesOf, TellsRun, LeavesLock, but_run};
 ghost use Rattle.bisync_run.specs.Sides.{compare_in};
-ghost use Rattle.bisync_cli.specs.Tasks.{AllTell, OfOrdinary, OfRun, Stood, task_in, asks_run, is_resilient};
+ghost use Rattle.bisync_cli.specs.Tasks.{AfterGood, AllTell, OfOrdinary, OfResync, OfRun, Stood, task_in, asks_run, is_resilient};
 ghost use Rattle.bisync_cli.specs.Ends.{EndsBy};
 
 use crate::answers::{Answer, told};
@@ -62,41 +62,35 @@ pub fn bisync_main<A: Folders, B: Folders, K: Remote, L: Remote, W: Work, C: Clo
     ensures keep2 { keep2.new ≡ keep2.old }
     ensures work { asks_run words.now ≡ false → work.new ≡ work.old }
     ensures clock { asks_run words.now ≡ false → clock.new ≡ clock.old }
-    ensures told { asks_run words.now ≡ false → IsTrue S.tells → Stood (S.state sink.old).faults (S.state sink.new).faults →
-        (S.state sink.new).bytes ≡ (S.state sink.old).bytes ++ last_text result.end }
-    ensures answers { OfRun words.now (λ opts. AllTell A.tells B.tells W.tells ((mode : Prefer) → opts.resync ≡ Some mode → AnswersRun mode opts Limits.REAL (W.state work.old).folder (by_side (A.state one.old) (B.state two.old)) C.tells (C.moment clock.old) result.end)) }
-    ensures accepted { OfRun words.now (λ opts. AllTell A.tells B.tells W.tells ((mode : Prefer) → opts.resync ≡ Some mode → is_after_good result.end ≡ true → HasNoRefusal mode opts Limits.REAL (W.state work.old).folder (by_side (A.state one.old) (B.state two.old)) C.tells (C.moment clock.old))) }
-    ensures resynced { OfRun words.now (λ opts. AllTell A.tells B.tells W.tells ((mode : Prefer) → opts.resync ≡ Some mode → opts.dry_run ≡ false → is_after_good result.end ≡ true →
-        IsResyncedBy mode opts Limits.REAL (W.state work.old).folder (by_side (A.state one.old) (B.state two.old)) (W.state work.new).folder (by_side (A.state one.new) (B.state two.new)))) }
-    ensures set_aside { OfRun words.now (λ opts. IsTrue W.tells → (mode : Prefer) → opts.resync ≡ Some mode → opts.dry_run ≡ false → is_after_good result.end ≡ true →
-        AreSetAsideBy opts (W.state work.old).folder (W.state work.new).folder) }
-    ensures only { OfRun words.now (λ opts. (mode : Prefer) → opts.resync ≡ Some mode → IsResyncEnd opts result.end) }
-    ensures numbers { OfRun words.now (λ opts. AllTell A.tells B.tells W.tells ((mode : Prefer) → opts.resync ≡ Some mode →
-        is_good result.end ≡ true → HasNumbers mode opts (W.state work.old).folder (by_side (A.state one.old) (B.state two.old)) result.end)) }
-    ensures base { OfRun words.now (λ opts. AllTell A.tells B.tells W.tells ((mode : Prefer) → opts.resync ≡ Some mode → LeavesBaseOf mode opts Limits.REAL (W.state work.old).folder (by_side (A.state one.old) (B.state two.old)) (W.state work.new).folder (by_side (A.state one.new) (B.state two.new)))) }
-    ensures images { OfRun words.now (λ opts. AllTell A.tells B.tells W.tells ((mode : Prefer) → opts.resync ≡ Some mode →
-        IsSettled (W.state work.old).folder → (image : WorkFolder) → IsImage (W.state work.new).folder image → LeavesBaseOf mode opts Limits.REAL (W.state work.old).folder (by_side (A.state one.old) (B.state two.old)) image (by_side (A.state one.new) (B.state two.new)))) }
-    ensures trees { OfRun words.now (λ opts. AllTell A.tells B.tells W.tells ((mode : Prefer) → opts.resync ≡ Some mode → LeavesTreesOf mode opts Limits.REAL (W.state work.old).folder (by_side (A.state one.old) (B.state two.old)) C.tells (C.moment clock.old) (by_side (A.state one.new) (B.state two.new)))) }
+    ensures told { asks_run words.now ≡ false → IsTrue S.tells → Stood (S.state sink.old).faults (S.state sink.new).faults → (S.state sink.new).bytes ≡ (S.state sink.old).bytes ++ last_text result.end }
+    ensures answers { OfResync words.now (λ opts mode. AllTell A.tells B.tells W.tells (AnswersRun mode opts Limits.REAL (W.state work.old).folder (by_side (A.state one.old) (B.state two.old)) C.tells (C.moment clock.old) result.end)) }
+    ensures accepted { OfResync words.now (λ opts mode. AllTell A.tells B.tells W.tells (AfterGood result.end → HasNoRefusal mode opts Limits.REAL (W.state work.old).folder (by_side (A.state one.old) (B.state two.old)) C.tells (C.moment clock.old))) }
+    ensures resynced { OfResync words.now (λ opts mode. AllTell A.tells B.tells W.tells (opts.dry_run ≡ false → AfterGood result.end → IsResyncedBy mode opts Limits.REAL (W.state work.old).folder (by_side (A.state one.old) (B.state two.old)) (W.state work.new).folder (by_side (A.state one.new) (B.state two.new)))) }
+    ensures set_aside { OfResync words.now (λ opts mode. IsTrue W.tells → opts.dry_run ≡ false → AfterGood result.end → AreSetAsideBy opts (W.state work.old).folder (W.state work.new).folder) }
+    ensures only { OfResync words.now (λ opts mode. IsResyncEnd opts result.end) }
+    ensures numbers { OfResync words.now (λ opts mode. IsTrue A.tells → IsTrue B.tells → KnowsRules W.tells opts.filters → is_good result.end ≡ true → HasNumbers mode opts (W.state work.old).folder (by_side (A.state one.old) (B.state two.old)) result.end) }
+    ensures base { OfResync words.now (λ opts mode. AllTell A.tells B.tells W.tells (LeavesBaseOf mode opts Limits.REAL (W.state work.old).folder (by_side (A.state one.old) (B.state two.old)) (W.state work.new).folder (by_side (A.state one.new) (B.state two.new)))) }
+    ensures images { OfResync words.now (λ opts mode. AllTell A.tells B.tells W.tells (IsSettled (W.state work.old).folder → (image : WorkFolder) → IsImage (W.state work.new).folder image → LeavesBaseOf mode opts Limits.REAL (W.state work.old).folder (by_side (A.state one.old) (B.state two.old)) image (by_side (A.state one.new) (B.state two.new)))) }
+    ensures trees { OfResync words.now (λ opts mode. AllTell A.tells B.tells W.tells (LeavesTreesOf mode opts Limits.REAL (W.state work.old).folder (by_side (A.state one.old) (B.state two.old)) C.tells (C.moment clock.old) (by_side (A.state one.new) (B.state two.new)))) }
+    ensures mixed { OfResync words.now (λ opts mode. IsTrue A.tells → IsTrue B.tells → KnowsRules W.tells opts.filters → LeavesMixOf mode opts (W.state work.old).folder (by_side (A.state one.old) (B.state two.old)) (by_side (A.state one.new) (B.state two.new))) }
+    ensures outcome { OfResync words.now (λ opts mode. IsTrue A.tells → IsTrue B.tells → KnowsRules W.tells opts.filters → opts.dry_run ≡ false → AfterGood result.end → HasOutcomeOf mode opts (W.state work.old).folder (by_side (A.state one.old) (B.state two.old)) (by_side (A.state one.new) (B.state two.new))) }
     ensures run_answers { OfOrdinary words.now (λ opts. AllTell A.tells B.tells W.tells (AnswersOrdinaryRun opts Limits.REAL (W.state work.old).folder (by_side (A.state one.old) (B.state two.old)) C.tells (C.moment clock.old) result.end)) }
-    ensures unrefused { OfOrdinary words.now (λ opts. AllTell A.tells B.tells W.tells (is_after_good result.end ≡ true → IsUnrefused opts Limits.REAL (W.state work.old).folder (by_side (A.state one.old) (B.state two.old)) C.tells (C.moment clock.old))) }
+    ensures unrefused { OfOrdinary words.now (λ opts. AllTell A.tells B.tells W.tells (AfterGood result.end → IsUnrefused opts Limits.REAL (W.state work.old).folder (by_side (A.state one.old) (B.state two.old)) C.tells (C.moment clock.old))) }
     ensures begins { OfOrdinary words.now (λ opts. IsTrue W.tells → AnswersBeginningOf opts Limits.REAL (W.state work.old).folder (by_side (A.state one.old) (B.state two.old)) C.tells (C.moment clock.old) result.end) }
-    ensures begun { OfOrdinary words.now (λ opts. IsTrue W.tells → is_after_good result.end ≡ true → IsWellBegunOf opts Limits.REAL (W.state work.old).folder (by_side (A.state one.old) (B.state two.old)) C.tells (C.moment clock.old)) }
-    ensures done { OfOrdinary words.now (λ opts. AllTell A.tells B.tells W.tells (opts.dry_run ≡ false → opts.check_sync ≢ CheckSync.Only → is_after_good result.end ≡ true →
-        IsDoneBy opts Limits.REAL (W.state work.old).folder (by_side (A.state one.old) (B.state two.old)) (W.state work.new).folder (by_side (A.state one.new) (B.state two.new)))) }
-    ensures in_sync { OfOrdinary words.now (λ opts. AllTell A.tells B.tells W.tells (opts.dry_run ≡ false → opts.check_sync ≢ CheckSync.Only → is_after_good result.end ≡ true → LeavesInSync opts Limits.REAL (W.state work.old).folder (by_side (A.state one.old) (B.state two.old)) (by_side (A.state one.new) (B.state two.new)))) }
+    ensures begun { OfOrdinary words.now (λ opts. IsTrue W.tells → AfterGood result.end → IsWellBegunOf opts Limits.REAL (W.state work.old).folder (by_side (A.state one.old) (B.state two.old)) C.tells (C.moment clock.old)) }
+    ensures done { OfOrdinary words.now (λ opts. AllTell A.tells B.tells W.tells (opts.dry_run ≡ false → opts.check_sync ≢ CheckSync.Only → AfterGood result.end → IsDoneBy opts Limits.REAL (W.state work.old).folder (by_side (A.state one.old) (B.state two.old)) (W.state work.new).folder (by_side (A.state one.new) (B.state two.new)))) }
+    ensures in_sync { OfOrdinary words.now (λ opts. AllTell A.tells B.tells W.tells (opts.dry_run ≡ false → opts.check_sync ≢ CheckSync.Only → AfterGood result.end → LeavesInSync opts Limits.REAL (W.state work.old).folder (by_side (A.state one.old) (B.state two.old)) (by_side (A.state one.new) (B.state two.new)))) }
     ensures was_apart { OfOrdinary words.now (λ opts. IsTrue W.tells → (p : PathBytes) (first second : Option Entry) → result.end ≡ OutOfSync p first second → WasApartBefore opts Limits.REAL (W.state work.old).folder (by_side (A.state one.old) (B.state two.old))) }
-    ensures resync_in_sync { OfRun words.now (λ opts. AllTell A.tells B.tells W.tells ((mode : Prefer) → opts.resync ≡ Some mode → opts.dry_run ≡ false → is_after_good result.end ≡ true → LeavesResyncInSync mode opts (W.state work.old).folder (by_side (A.state one.old) (B.state two.old)) (by_side (A.state one.new) (B.state two.new)))) }
+    ensures resync_in_sync { OfResync words.now (λ opts mode. AllTell A.tells B.tells W.tells (opts.dry_run ≡ false → AfterGood result.end → LeavesResyncInSync mode opts (W.state work.old).folder (by_side (A.state one.old) (B.state two.old)) (by_side (A.state one.new) (B.state two.new)))) }
     ensures run_numbers { OfOrdinary words.now (λ opts. AllTell A.tells B.tells W.tells (is_good result.end ≡ true → HasOrdinaryNumbers opts Limits.REAL (W.state work.old).folder (by_side (A.state one.old) (B.state two.old)) result.end)) }
     ensures run_base { OfOrdinary words.now (λ opts. AllTell A.tells B.tells W.tells (LeavesOrdinaryBaseOf opts Limits.REAL (W.state work.old).folder (by_side (A.state one.old) (B.state two.old)) (W.state work.new).folder (by_side (A.state one.new) (B.state two.new)))) }
-    ensures resilient_base { OfOrdinary words.now (λ opts. AllTell A.tells B.tells W.tells ((opts.resilient || opts.dry_run) ≡ true →
-        KeepsOrdinaryBaseOf opts Limits.REAL (W.state work.old).folder (by_side (A.state one.old) (B.state two.old)) (W.state work.new).folder (by_side (A.state one.new) (B.state two.new)))) }
+    ensures resilient_base { OfOrdinary words.now (λ opts. AllTell A.tells B.tells W.tells ((opts.resilient || opts.dry_run) ≡ true → KeepsOrdinaryBaseOf opts Limits.REAL (W.state work.old).folder (by_side (A.state one.old) (B.state two.old)) (W.state work.new).folder (by_side (A.state one.new) (B.state two.new)))) }
     ensures run_trees { OfOrdinary words.now (λ opts. AllTell A.tells B.tells W.tells (LeavesOrdinaryTreesOf opts Limits.REAL (W.state work.old).folder (by_side (A.state one.old) (B.state two.old)) C.tells (C.moment clock.old) (by_side (A.state one.new) (B.state two.new)))) }
     ensures set_back { OfOrdinary words.now (λ opts. AllTell A.tells B.tells W.tells (LeavesBaseSetBack Limits.REAL (compared opts (by_side (A.state one.old) (B.state two.old))) (W.state work.old).folder (by_side (A.state one.old) (B.state two.old)) (W.state work.new).folder (by_side (A.state one.new) (B.state two.new)))) }
     ensures run_rest { OfOrdinary words.now (λ opts. IsTrue W.tells → KeepsOrdinaryRest (lets_fall opts.resilient opts.dry_run result.end) (W.state work.old).folder (W.state work.new).folder) }
     ensures only_run { OfOrdinary words.now (λ opts. IsOrdinaryEnd opts (compare_in opts.compare (A.state one.old).window (B.state two.old).window) result.end) }
     ensures run_images { OfOrdinary words.now (λ opts. AllTell A.tells B.tells W.tells (IsSettled (W.state work.old).folder → (image : WorkFolder) → IsImage (W.state work.new).folder image → LeavesOrdinaryBaseOf opts Limits.REAL (W.state work.old).folder (by_side (A.state one.old) (B.state two.old)) image (by_side (A.state one.new) (B.state two.new)))) }
-    ensures resilient_images { OfOrdinary words.now (λ opts. AllTell A.tells B.tells W.tells ((opts.resilient || opts.dry_run) ≡ true →
-        IsSettled (W.state work.old).folder → (image : WorkFolder) → IsImage (W.state work.new).folder image → KeepsOrdinaryBaseOf opts Limits.REAL (W.state work.old).folder (by_side (A.state one.old) (B.state two.old)) image (by_side (A.state one.new) (B.state two.new)))) }
+    ensures resilient_images { OfOrdinary words.now (λ opts. AllTell A.tells B.tells W.tells ((opts.resilient || opts.dry_run) ≡ true → IsSettled (W.state work.old).folder → (image : WorkFolder) → IsImage (W.state work.new).folder image → KeepsOrdinaryBaseOf opts Limits.REAL (W.state work.old).folder (by_side (A.state one.old) (B.state two.old)) image (by_side (A.state one.new) (B.state two.new)))) }
     ensures safe { OfOrdinary words.now (λ opts. AllTell A.tells B.tells W.tells (IsSettled (W.state work.old).folder → (image : WorkFolder) → IsImage (W.state work.new).folder image → KeepsSafe opts Limits.REAL (W.state work.old).folder (by_side (A.state one.old) (B.state two.old)) image (by_side (A.state one.new) (B.state two.new)))) }
     ensures only_one { OfOrdinary words.now (λ opts. opts.check_sync ≡ CheckSync.Only → KeepsTree A.tells (A.state one.old) (A.state one.new)) }
     ensures only_two { OfOrdinary words.now (λ opts. opts.check_sync ≡ CheckSync.Only → KeepsTree B.tells (B.state two.old) (B.state two.new)) }
@@ -105,7 +99,7 @@ pub fn bisync_main<A: Folders, B: Folders, K: Remote, L: Remote, W: Work, C: Clo
     ensures blocked { IsTrue W.tells → AtMoment C.tells (C.moment clock.old) (λ now. KeepsBlocking now (W.state work.old).folder (W.state work.new).folder) }
     ensures folder_base { OfRun words.now (λ opts. IsTrue W.tells → LeavesFolderBase opts Limits.REAL (W.state work.old).folder (by_side (A.state one.old) (B.state two.old)) result.end (W.state work.new).folder) }
     ensures folder_images { OfRun words.now (λ opts. IsTrue W.tells → IsSettled (W.state work.old).folder → (image : WorkFolder) → IsImage (W.state work.new).folder image → LeavesFolderBase opts Limits.REAL (W.state work.old).folder (by_side (A.state one.old) (B.state two.old)) result.end image) }
-    ensures folder_next { OfRun words.now (λ opts. IsTrue W.tells → Writes opts → is_after_good result.end ≡ true → LeavesNextInPlace opts Limits.REAL (W.state work.old).folder (by_side (A.state one.old) (B.state two.old)) (W.state work.new).folder) }
+    ensures folder_next { OfRun words.now (λ opts. IsTrue W.tells → Writes opts → AfterGood result.end → LeavesNextInPlace opts Limits.REAL (W.state work.old).folder (by_side (A.state one.old) (B.state two.old)) (W.state work.new).folder) }
     ensures settled { IsTrue W.tells → IsSettled (W.state work.old).folder → IsSettled (W.state work.new).folder }
     ensures rest { IsTrue W.tells → but_run (W.state work.new).folder ≡ but_run (W.state work.old).folder }
     ensures untouched_one { may_have_changed result.end ≡ false → KeepsTree A.tells (A.state one.old) (A.state one.new) }
@@ -119,7 +113,7 @@ pub fn bisync_main<A: Folders, B: Folders, K: Remote, L: Remote, W: Work, C: Clo
     ensures dry { OfRun words.now (λ opts. IsTrue W.tells → opts.dry_run ≡ true → ChangesLock (W.state work.old).folder (W.state work.new).folder) }
     ensures lock { OfRun words.now (λ opts. IsTrue W.tells → Stood (W.state work.old).faults (W.state work.new).faults → LeavesLock result.end (W.state work.old).folder (W.state work.new).folder) }
     ensures freed { IsTrue W.tells → has_freed result.end ≡ true → (W.state work.new).folder.lock ≡ Absent }
-    ensures lock_new { IsTrue W.tells → (is_after_good result.end ≡ true) ⊎ Stood (W.state work.old).faults (W.state work.new).faults → KeepsLockNew (W.state work.old).folder (W.state work.new).folder }
+    ensures lock_new { IsTrue W.tells → (AfterGood result.end) ⊎ Stood (W.state work.old).faults (W.state work.new).faults → KeepsLockNew (W.state work.old).folder (W.state work.new).folder }
     ensures own_lock { OfRun words.now (λ opts. IsTrue W.tells → LeavesOwnLock opts.max_lock C.tells (C.moment clock.old) result.end (W.state work.old).folder.lock (W.state work.new).folder.lock) }
     ensures digest_late { OfRun words.now (λ opts. IsTrue W.tells → StoresDigestLate Limits.REAL (compared opts (by_side (A.state one.old) (B.state two.old))) (W.state work.old).folder (W.state work.new).folder) }
     ensures no_digest { OfRun words.now (λ opts. IsTrue W.tells → opts.filters ≡ None → (W.state work.new).folder.filters_md5 ≡ (W.state work.old).folder.filters_md5) }
@@ -133,15 +127,12 @@ pub fn bisync_main<A: Folders, B: Folders, K: Remote, L: Remote, W: Work, C: Clo
     ensures left2 { (B.state two.old).left ≡ None → (B.state two.new).left ≡ None }
     ensures left { (W.state work.old).left ≡ None → (W.state work.new).left ≡ None }
     ensures later { Later (counts (A.state one.old).faults (B.state two.old).faults (W.state work.old).faults (S.state sink.old).faults) (counts (A.state one.new).faults (B.state two.new).faults (W.state work.new).faults (S.state sink.new).faults) }
-    ensures causes { OfRun words.now (λ opts.
-        Ends (counts (A.state one.old).faults (B.state two.old).faults (W.state work.old).faults (S.state sink.old).faults) (counts (A.state one.new).faults (B.state two.new).faults (W.state work.new).faults (S.state sink.new).faults) result.end) }
+    ensures causes { OfRun words.now (λ opts. Ends (counts (A.state one.old).faults (B.state two.old).faults (W.state work.old).faults (S.state sink.old).faults) (counts (A.state one.new).faults (B.state two.new).faults (W.state work.new).faults (S.state sink.new).faults) result.end) }
     ensures quiet { IsTrue S.tells → Stood (S.state sink.old).faults (S.state sink.new).faults → may_tell_plan result.end ≡ false → (S.state sink.new).bytes ≡ (S.state sink.old).bytes ++ last_text result.end }
     ensures only_quiet { OfOrdinary words.now (λ opts. opts.check_sync ≡ CheckSync.Only → IsTrue S.tells → Stood (S.state sink.old).faults (S.state sink.new).faults → (S.state sink.new).bytes ≡ (S.state sink.old).bytes ++ last_text result.end) }
     ensures lines { IsTrue S.tells → Stood (S.state sink.old).faults (S.state sink.new).faults → (lines : List ℕ) × ((S.state sink.new).bytes ≡ ((S.state sink.old).bytes ++ lines) ++ last_text result.end) }
-    ensures report { OfRun words.now (λ opts. IsTrue A.tells → IsTrue B.tells → IsTrue S.tells → IsTrue W.tells → (mode : Prefer) → opts.resync ≡ Some mode →
-        Stood (S.state sink.old).faults (S.state sink.new).faults → TellsRun mode opts (W.state work.old).folder (by_side (A.state one.old) (B.state two.old)) (by_side (A.state one.new) (B.state two.new)) (S.state sink.old).bytes (last_text result.end) (S.state sink.new).bytes result.end) }
-    ensures run_report { OfOrdinary words.now (λ opts. AllTell A.tells B.tells W.tells (IsTrue S.tells → Stood (S.state sink.old).faults (S.state sink.new).faults →
-        TellsOrdinaryRun opts Limits.REAL (W.state work.old).folder (by_side (A.state one.old) (B.state two.old)) (by_side (A.state one.new) (B.state two.new)) (S.state sink.old).bytes (last_text result.end) (S.state sink.new).bytes result.end)) }
+    ensures report { OfResync words.now (λ opts mode. IsTrue A.tells → IsTrue B.tells → IsTrue S.tells → KnowsRules W.tells opts.filters → Stood (S.state sink.old).faults (S.state sink.new).faults → TellsRun mode opts (W.state work.old).folder (by_side (A.state one.old) (B.state two.old)) (by_side (A.state one.new) (B.state two.new)) (S.state sink.old).bytes (last_text result.end) (S.state sink.new).bytes result.end) }
+    ensures run_report { OfOrdinary words.now (λ opts. AllTell A.tells B.tells W.tells (IsTrue S.tells → Stood (S.state sink.old).faults (S.state sink.new).faults → TellsOrdinaryRun opts Limits.REAL (W.state work.old).folder (by_side (A.state one.old) (B.state two.old)) (by_side (A.state one.new) (B.state two.new)) (S.state sink.old).bytes (last_text result.end) (S.state sink.new).bytes result.end)) }
 {
     let opts = match read_task(alloc, words) {
         Ok(Task::Run(opts)) => opts,

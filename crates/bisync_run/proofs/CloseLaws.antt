@@ -58,17 +58,18 @@ closes f g h fell may =
     }
 
 -- what fell still has, past the removal of the lock
+pub fell_past : (f g h : WorkFolder) → IsFallen f g → Unlocks g h → IsFallen f h
+fell_past f g h fell only = record {
+  one = ap (λ (x : WorkFolder). x.one) only.rest ∙ fell.one;
+  two = ap (λ (x : WorkFolder). x.two) only.rest ∙ fell.two;
+  one_old = ap (λ (x : WorkFolder). x.one_old) only.rest ∙ fell.one_old;
+  two_old = ap (λ (x : WorkFolder). x.two_old) only.rest ∙ fell.two_old;
+  one_err = ap (λ (x : WorkFolder). x.one_err) only.rest ∙ fell.one_err;
+  two_err = ap (λ (x : WorkFolder). x.two_err) only.rest ∙ fell.two_err;
+}
+
 pub fell_unlocked : (f g h : WorkFolder) → IsFallen f g → MayUnlock g h → IsFallen f h
-fell_unlocked f g h fell may =
-    let only = unlocks g h may in
-    record {
-      one = ap (λ (x : WorkFolder). x.one) only.rest ∙ fell.one;
-      two = ap (λ (x : WorkFolder). x.two) only.rest ∙ fell.two;
-      one_old = ap (λ (x : WorkFolder). x.one_old) only.rest ∙ fell.one_old;
-      two_old = ap (λ (x : WorkFolder). x.two_old) only.rest ∙ fell.two_old;
-      one_err = ap (λ (x : WorkFolder). x.one_err) only.rest ∙ fell.one_err;
-      two_err = ap (λ (x : WorkFolder). x.two_err) only.rest ∙ fell.two_err;
-    }
+fell_unlocked f g h fell may = fell_past f g h fell (unlocks g h may)
 
 -- said of the folder before the lock was taken
 pub fell_before : (f f2 mid h : WorkFolder) → ChangesLock f f2 → FallsAs f2 mid → IsFallen mid h → IsFallen f h

@@ -13,7 +13,7 @@ use Rattle.bisync_work.specs.Moves.{but_fallen, moved_over}
 use Rattle.bisync_run.specs.CarryingOut.{AreSetAside}
 use Rattle.bisync_run.specs.Closing.{ClosesWith, Closes, EndsWith, Unlocks, but_fallen_or_lock}
 use Rattle.bisync_run.specs.Counts.{Counts, Stops}
-use Rattle.bisync_run.specs.EndKinds.{is_good, has_freed, is_before_lock, is_unlocked, lets_fall, falls_at_close, may_have_changed, may_tell_plan}
+use Rattle.bisync_run.specs.EndKinds.{is_good, is_after_good, has_freed, is_before_lock, is_unlocked, lets_fall, falls_at_close, may_have_changed, may_tell_plan}
 use Rattle.bisync_run.specs.FilterRules.{AreRulesOf}
 use Rattle.bisync_run.specs.HeldResyncs.{end_of}
 use Rattle.bisync_run.specs.LockNew.{KeepsLockNew}
@@ -148,3 +148,7 @@ held_told end last (inr lost) later = good_is_held end lost.0
 pub before_told : (end last : End) → EndsWith end last → is_before_lock end ≡ true → is_before_lock last ≡ true
 before_told end last (inl same) before = ap is_before_lock same ∙ before
 before_told end last (inr lost) before = false_true (sym (good_is_held end lost.0) ∙ before)
+
+pub bad_told : (end last : End) → EndsWith end last → is_after_good last ≡ false → is_after_good end ≡ false
+bad_told end last (inl same) bad = ap is_after_good (sym same) ∙ bad
+bad_told end last (inr lost) bad = false_true (sym bad ∙ ap is_after_good lost.1)

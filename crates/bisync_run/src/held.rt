@@ -8,6 +8,7 @@ ghost use Rattle.bisync_device.specs.WorkFolder.{IsSettled};
 ghost use Rattle.bisync_device.specs.Remote.{KeepsTree};
 ghost use Rattle.bisync_device.specs.Work.{KeepsFolder};
 ghost use Rattle.bisync_opts.specs.Ranges.{IsInRange};
+ghost use Rattle.bisync_work.specs.Moves.{IsFallen};
 ghost use Rattle.bisync_run.specs.Beginnings.{AnswersBeginning, IsWellBegun};
 ghost use Rattle.bisync_run.specs.CarryingOut.{AreSetAside, but_carried};
 ghost use Rattle.bisync_run.specs.Counts.{counts, HasCauses};
@@ -88,6 +89,7 @@ pub fn held<A: Remote, B: Remote, W: Work, C: Clock, S: Sink>(
     ensures compares_sink { opts.now.resync ≡ None → opts.now.check_sync ≡ CheckSync.Only → S.state sink.new ≡ S.state sink.old }
     ensures folder_base { IsTrue W.tells → LeavesHeldBase opts.now limits.now (sides_of opts.now.compare entered.now.rules (A.state one.old) (B.state two.old)) entered.now.digest (end_of result) (W.state work.old).folder (W.state work.new).folder }
     ensures falls_as { IsTrue W.tells → (Rose (W.state work.old).faults (W.state work.new).faults → ⊥) → IfErr result (λ _. FallsAs (W.state work.old).folder (W.state work.new).folder) }
+    ensures fell { (mode : Prefer) → opts.now.resync ≡ Some mode → IsTrue W.tells → (Rose (W.state work.old).faults (W.state work.new).faults → ⊥) → IfErr result (λ _. ((W.state work.new).folder ≡ (W.state work.old).folder) ⊎ IsFallen (W.state work.old).folder (W.state work.new).folder) }
     ensures own_lock { IsTrue W.tells → KeepsOwnLock opts.now.max_lock C.tells (C.moment clock.old) (W.state work.old).folder.lock (W.state work.new).folder.lock }
     ensures digest_late { IsTrue W.tells → StoresDigestLate limits.now (compare_in opts.now.compare (A.state one.old).window (B.state two.old).window) (W.state work.old).folder (W.state work.new).folder }
     ensures set_back { opts.now.resync ≡ None → IsTrue A.tells → IsTrue B.tells → IsTrue W.tells → LeavesBaseSetBack limits.now (compare_in opts.now.compare (A.state one.old).window (B.state two.old).window) (W.state work.old).folder (by_side (A.state one.old) (B.state two.old)) (W.state work.new).folder (by_side (A.state one.new) (B.state two.new)) }

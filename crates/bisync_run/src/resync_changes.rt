@@ -9,6 +9,7 @@ ghost use Rattle.bisync_device.specs.Faults.{Rose};
 ghost use Rattle.bisync_device.specs.WorkFolder.{IsSettled};
 ghost use Rattle.bisync_transfer.specs.StepTrees.{AreDone};
 ghost use Rattle.bisync_work.specs.Base.{IsBase, HasNoBase};
+ghost use Rattle.bisync_work.specs.Moves.{IsFallen};
 ghost use Rattle.bisync_run.specs.CarryingOut.{AreWithin, LeavesOneBase, LosesOrNext, but_carried, AreCarriedOut};
 ghost use Rattle.bisync_run.specs.Counts.{counts, HasCauses};
 ghost use Rattle.bisync_run.specs.EndKinds.{may_have_switched_after};
@@ -48,6 +49,7 @@ pub fn carry_out<A: Remote, B: Remote, W: Work, C: Clock>(
     ensures no_digest { IsTrue W.tells → digest.now ≡ None → (W.state work.new).folder.filters_md5 ≡ (W.state work.old).folder.filters_md5 }
     ensures folder_base { IsTrue W.tells → (limit : ℕ) → limit < 2 ^ 64 → AreWithin limit prepared → LosesOrNext limit prepared (may_have_switched_after result) (W.state work.old).folder (W.state work.new).folder }
     ensures falls_as { IsTrue W.tells → (Rose (W.state work.old).faults (W.state work.new).faults → ⊥) → IfErr result (λ _. FallsAs (W.state work.old).folder (W.state work.new).folder) }
+    ensures fell { IsTrue W.tells → (Rose (W.state work.old).faults (W.state work.new).faults → ⊥) → IfErr result (λ _. IsFallen (W.state work.old).folder (W.state work.new).folder) }
     ensures own_lock { IsTrue W.tells → KeepsOwnLock renewal.max_lock C.tells (C.moment clock.old) (W.state work.old).folder.lock (W.state work.new).folder.lock }
     ensures digest_late { IsTrue W.tells → (limit : ℕ) → limit < 2 ^ 64 → AreWithin limit prepared
         → ((W.state work.new).folder.filters_md5 ≡ (W.state work.old).folder.filters_md5) ⊎ (HasNoBase limit (W.state work.new).folder ⊎ IsBase limit (W.state work.new).folder (Some (next_base prepared))) }

@@ -8,6 +8,7 @@ ghost use Rattle.bisync_device.specs.Remote.{KeepsTree};
 ghost use Rattle.bisync_device.specs.Work.{KeepsFolder};
 ghost use Rattle.bisync_opts.specs.Ranges.{IsInRange};
 ghost use Rattle.bisync_run.specs.CarryingOut.{AreSetAside, but_carried};
+ghost use Rattle.bisync_work.specs.Moves.{IsFallen};
 ghost use Rattle.bisync_run.specs.Counts.{counts, HasCauses};
 ghost use Rattle.bisync_run.specs.EndKinds.{is_good, is_unlocked, may_have_changed, may_tell_plan};
 ghost use Rattle.bisync_run.specs.FolderBases.{HasNextInPlace, LosesOrTakesNext};
@@ -68,6 +69,7 @@ pub fn resync<A: Remote, B: Remote, W: Work, C: Clock, S: Sink>(
     ensures set_aside { IsTrue W.tells → opts.now.dry_run ≡ false → OnOk result (AreSetAside entered.now.digest (W.state work.old).folder (W.state work.new).folder) }
     ensures folder_base { IsTrue W.tells → LosesOrTakesNext limits.now (compare_in opts.now.compare (A.state one.old).window (B.state two.old).window) (end_of result) (W.state work.old).folder (W.state work.new).folder }
     ensures falls_as { IsTrue W.tells → (Rose (W.state work.old).faults (W.state work.new).faults → ⊥) → IfErr result (λ _. FallsAs (W.state work.old).folder (W.state work.new).folder) }
+    ensures fell { IsTrue W.tells → (Rose (W.state work.old).faults (W.state work.new).faults → ⊥) → IfErr result (λ _. ((W.state work.new).folder ≡ (W.state work.old).folder) ⊎ IsFallen (W.state work.old).folder (W.state work.new).folder) }
     ensures own_lock { IsTrue W.tells → KeepsOwnLock opts.now.max_lock C.tells (C.moment clock.old) (W.state work.old).folder.lock (W.state work.new).folder.lock }
     ensures digest_late { IsTrue W.tells → StoresDigestLate limits.now (compare_in opts.now.compare (A.state one.old).window (B.state two.old).window) (W.state work.old).folder (W.state work.new).folder }
     ensures folder_next { IsTrue W.tells → opts.now.dry_run ≡ false → OnOk result (HasNextInPlace limits.now (compare_in opts.now.compare (A.state one.old).window (B.state two.old).window) (W.state work.old).folder (W.state work.new).folder) }

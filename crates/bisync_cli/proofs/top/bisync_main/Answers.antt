@@ -192,3 +192,9 @@ returns-clause-digest_late g c = of_run _ _ _ _ c.in-Ok-Run.ensures.read.ok c.in
 
 pub returns-clause-set_back : goal.returns-clause-set_back
 returns-clause-set_back g c = of_run _ _ _ _ c.in-Ok-Run.ensures.read.ok c.in-Ok-Run.field-0-is c.run-end.ensures.set_back
+
+pub returns-clause-mixed : goal.returns-clause-mixed
+returns-clause-mixed g c = of_run _ _ _ _ c.in-Ok-Run.ensures.read.ok c.in-Ok-Run.field-0-is c.run-end.ensures.mixed
+
+pub returns-clause-outcome : goal.returns-clause-outcome
+returns-clause-outcome g c = of_run _ _ _ _ c.in-Ok-Run.ensures.read.ok c.in-Ok-Run.field-0-is c.run-end.ensures.outcome

@@ -20,7 +20,7 @@ use Rattle.bisync_run.proofs.CoursesBefore.{run_answers_before, unrefused_before
 use Rattle.bisync_run.proofs.DoneSteps.{untouched_same}
 use Rattle.bisync_run.proofs.EndCases.{false_true, good_is_after_good}
 use Rattle.bisync_run.proofs.EndKindLaws.{unlocked_is_own, unlocked_not_after_good, unlocked_fell, freed_is_after_good}
-use Rattle.bisync_run.proofs.FallsAsLaws.{where_it_falls}
+use Rattle.bisync_run.proofs.FallsAsLaws.{resync_fell, where_it_falls}
 use Rattle.bisync_run.proofs.FolderBases.{folder_base_closed, folder_base_unlocked, folder_next_closed}
 use Rattle.bisync_run.proofs.LockNewLaws.{lock_new_twice, lock_new_same}
 use Rattle.bisync_run.proofs.LockedFolders.{base_past}
@@ -89,15 +89,10 @@ returns-clause-answers g c mode mode_is one two work =
     let a = g.A.Remote.state c.args.one.now in let b = g.B.Remote.state c.args.two.now in let s = sides_of c.args.opts.now.compare c.in-Ok.entered.rules a b in
     let f = (g.W.Work.state c.args.work.now).folder in let f2 = (g.W.Work.state c.enter.new.work).folder in let changes = c.in-Ok.ensures.others work in
     let m : Matter c.args.opts.now f (by_side a b) = record { rules = c.in-Ok.entered.rules; digest = c.in-Ok.entered.digest; are = c.in-Ok.ensures.rules (inl work) } in
-    inr (
-      c.in-Ok.ensures.free work,
-      (
-        m,
-        answers_before mode c.args.limits.now f f2 changes s c.close.result
-            (answers_closed mode c.args.limits.now f2 s c.args.opts.now.dry_run c.held-ended.result c.close.result c.close.ensures.end
-            (c.held-ended.ensures.answers mode mode_is one two work) (c.held-ended.ensures.accepted mode mode_is one two work) (c.held-ended.ensures.good mode mode_is one two)),
-      ),
-    )
+    let answer = answers_before mode c.args.limits.now f f2 changes s c.close.result
+    (answers_closed mode c.args.limits.now f2 s c.args.opts.now.dry_run c.held-ended.result c.close.result c.close.ensures.end
+    (c.held-ended.ensures.answers mode mode_is one two work) (c.held-ended.ensures.accepted mode mode_is one two work) (c.held-ended.ensures.good mode mode_is one two)) in
+    inr (c.in-Ok.ensures.free work, (m, answer))
 
 pub returns-clause-accepted : goal.returns-clause-accepted
 returns-clause-accepted g c mode mode_is one two work good =
@@ -108,13 +103,11 @@ returns-clause-accepted g c mode mode_is one two work good =
 pub returns-clause-resynced : goal.returns-clause-resynced
 returns-clause-resynced g c mode mode_is one two work dry good =
     let f = (g.W.Work.state c.args.work.now).folder in let m : Matter c.args.opts.now f _ = record { rules = c.in-Ok.entered.rules; digest = c.in-Ok.entered.digest; are = c.in-Ok.ensures.rules (inl work) } in
-    let ok = after_good_was_ok _ _ c.held-ended.result c.close.result c.held-ended.ensures.causes.fault c.close.ensures.end good in (
-      m,
-      done_unlocked mode c.args.limits.now _ _ _ c.in-Ok.entered.digest f _ _ (c.in-Ok.ensures.others work)
-          (done_closed mode c.args.limits.now _ _ _ c.in-Ok.entered.digest _ _ _
-          (on_ok c.held-ended.result ok (c.held-ended.ensures.resynced mode mode_is one two work dry))
-          (c.close.ensures.kept work (falls_ok c.args.opts.now.resilient c.args.opts.now.dry_run c.held-ended.result ok))),
-    )
+    let ok = after_good_was_ok _ _ c.held-ended.result c.close.result c.held-ended.ensures.causes.fault c.close.ensures.end good in
+    let done = done_unlocked mode c.args.limits.now _ _ _ c.in-Ok.entered.digest f _ _ (c.in-Ok.ensures.others work)
+    (done_closed mode c.args.limits.now _ _ _ c.in-Ok.entered.digest _ _ _
+    (on_ok c.held-ended.result ok (c.held-ended.ensures.resynced mode mode_is one two work dry))
+    (c.close.ensures.kept work (falls_ok c.args.opts.now.resilient c.args.opts.now.dry_run c.held-ended.result ok))) in (m, done)
 
 pub returns-clause-numbers : goal.returns-clause-numbers
 returns-clause-numbers g c mode mode_is one two work good =
@@ -259,45 +252,34 @@ returns-clause-run_answers g c none one two work =
     let a = g.A.Remote.state c.args.one.now in let b = g.B.Remote.state c.args.two.now in
     let f = (g.W.Work.state c.args.work.now).folder in let m : Matter c.args.opts.now f (by_side a b) = record { rules = c.in-Ok.entered.rules; digest = c.in-Ok.entered.digest; are = c.in-Ok.ensures.rules (inl work) } in
     let s = sides_of c.args.opts.now.compare c.in-Ok.entered.rules a b in let f2 = (g.W.Work.state c.enter.new.work).folder in
-    inr (
-      c.in-Ok.ensures.free work,
-      (
-        m,
-        run_answers_before c.args.opts.now c.args.limits.now f f2 (c.in-Ok.ensures.others work) s c.in-Ok.entered.digest c.close.result
-            (run_answers_closed c.args.opts.now c.args.limits.now f2 s c.in-Ok.entered.digest c.held-ended.result c.close.result c.close.ensures.end
-            (c.held-ended.ensures.run_answers none one two work) (c.held-ended.ensures.unrefused none one two work)),
-      ),
-    )
+    let answer = run_answers_before c.args.opts.now c.args.limits.now f f2 (c.in-Ok.ensures.others work) s c.in-Ok.entered.digest c.close.result
+    (run_answers_closed c.args.opts.now c.args.limits.now f2 s c.in-Ok.entered.digest c.held-ended.result c.close.result c.close.ensures.end
+    (c.held-ended.ensures.run_answers none one two work) (c.held-ended.ensures.unrefused none one two work)) in
+    inr (c.in-Ok.ensures.free work, (m, answer))
 
 pub returns-clause-unrefused : goal.returns-clause-unrefused
 returns-clause-unrefused g c none one two work good =
     let f = (g.W.Work.state c.args.work.now).folder in let m : Matter c.args.opts.now f _ = record { rules = c.in-Ok.entered.rules; digest = c.in-Ok.entered.digest; are = c.in-Ok.ensures.rules (inl work) } in
-    let ok = after_good_was_ok _ _ c.held-ended.result c.close.result c.held-ended.ensures.causes.fault c.close.ensures.end good in (
-      c.in-Ok.ensures.free work,
-      (m, unrefused_before c.args.opts.now c.args.limits.now f _ (c.in-Ok.ensures.others work) _ _ (on_ok c.held-ended.result ok (c.held-ended.ensures.unrefused none one two work))),
-    )
+    let ok = after_good_was_ok _ _ c.held-ended.result c.close.result c.held-ended.ensures.causes.fault c.close.ensures.end good in
+    (c.in-Ok.ensures.free work, (m, unrefused_before c.args.opts.now c.args.limits.now f _ (c.in-Ok.ensures.others work) _ _ (on_ok c.held-ended.result ok (c.held-ended.ensures.unrefused none one two work))))
 
 pub returns-clause-done : goal.returns-clause-done
 returns-clause-done g c none one two work dry only good =
     let f = (g.W.Work.state c.args.work.now).folder in let m : Matter c.args.opts.now f _ = record { rules = c.in-Ok.entered.rules; digest = c.in-Ok.entered.digest; are = c.in-Ok.ensures.rules (inl work) } in
-    let ok = after_good_was_ok _ _ c.held-ended.result c.close.result c.held-ended.ensures.causes.fault c.close.ensures.end good in (
-      m,
-      run_done_closed c.args.opts.now c.args.limits.now _ c.in-Ok.entered.digest _ _ f _ _ _ (c.in-Ok.ensures.others work)
-          (on_ok c.held-ended.result ok (c.held-ended.ensures.done none one two work dry only))
-          (c.close.ensures.kept work (falls_ok c.args.opts.now.resilient c.args.opts.now.dry_run c.held-ended.result ok)),
-    )
+    let ok = after_good_was_ok _ _ c.held-ended.result c.close.result c.held-ended.ensures.causes.fault c.close.ensures.end good in
+    let done = run_done_closed c.args.opts.now c.args.limits.now _ c.in-Ok.entered.digest _ _ f _ _ _ (c.in-Ok.ensures.others work)
+    (on_ok c.held-ended.result ok (c.held-ended.ensures.done none one two work dry only))
+    (c.close.ensures.kept work (falls_ok c.args.opts.now.resilient c.args.opts.now.dry_run c.held-ended.result ok)) in (m, done)
 
 pub returns-clause-run_numbers : goal.returns-clause-run_numbers
 returns-clause-run_numbers g c none one two work good =
     let a = g.A.Remote.state c.args.one.now in let b = g.B.Remote.state c.args.two.now in
     let f = (g.W.Work.state c.args.work.now).folder in let m : Matter c.args.opts.now f (by_side a b) = record { rules = c.in-Ok.entered.rules; digest = c.in-Ok.entered.digest; are = c.in-Ok.ensures.rules (inl work) } in
     let s = sides_of c.args.opts.now.compare c.in-Ok.entered.rules a b in
-    let f2 = (g.W.Work.state c.enter.new.work).folder in (
-      m,
-      good_before c.args.opts.now c.args.limits.now f f2 (c.in-Ok.ensures.others work) s c.in-Ok.entered.digest c.close.result
-          (numbers_closed (IsGoodOrdinaryEnd c.args.opts.now c.args.limits.now f2 s c.in-Ok.entered.digest) _ _ c.held-ended.result c.close.result c.held-ended.ensures.causes.fault
-          c.close.ensures.end (c.held-ended.ensures.run_good none one two work) good),
-    )
+    let f2 = (g.W.Work.state c.enter.new.work).folder in
+    let done = good_before c.args.opts.now c.args.limits.now f f2 (c.in-Ok.ensures.others work) s c.in-Ok.entered.digest c.close.result
+    (numbers_closed (IsGoodOrdinaryEnd c.args.opts.now c.args.limits.now f2 s c.in-Ok.entered.digest) _ _ c.held-ended.result c.close.result c.held-ended.ensures.causes.fault
+    c.close.ensures.end (c.held-ended.ensures.run_good none one two work) good) in (m, done)
 
 pub returns-clause-run_base : goal.returns-clause-run_base
 returns-clause-run_base g c none one two work base is =
@@ -378,25 +360,18 @@ returns-clause-begins g c none work =
     let f = (g.W.Work.state c.args.work.now).folder in let f2 = (g.W.Work.state c.enter.new.work).folder in
     let s = sides_of c.args.opts.now.compare c.in-Ok.entered.rules (g.A.Remote.state c.args.one.now) (g.B.Remote.state c.args.two.now) in
     let m : Matter c.args.opts.now f _ = record { rules = c.in-Ok.entered.rules; digest = c.in-Ok.entered.digest; are = c.in-Ok.ensures.rules (inl work) } in
-    inr (
-      c.in-Ok.ensures.free work,
-      (
-        m,
-        begins_before c.args.opts.now c.args.limits.now f f2 (c.in-Ok.ensures.others work) s c.in-Ok.entered.digest c.close.result
-            (begins_closed c.args.opts.now c.args.limits.now f2 s c.in-Ok.entered.digest c.held-ended.result c.close.result c.close.ensures.end
-            (c.held-ended.ensures.begins none work) (c.held-ended.ensures.begun none work)),
-      ),
-    )
+    let answer = begins_before c.args.opts.now c.args.limits.now f f2 (c.in-Ok.ensures.others work) s c.in-Ok.entered.digest c.close.result
+    (begins_closed c.args.opts.now c.args.limits.now f2 s c.in-Ok.entered.digest c.held-ended.result c.close.result c.close.ensures.end
+    (c.held-ended.ensures.begins none work) (c.held-ended.ensures.begun none work)) in
+    inr (c.in-Ok.ensures.free work, (m, answer))
 
 pub returns-clause-begun : goal.returns-clause-begun
 returns-clause-begun g c none work good =
     let f = (g.W.Work.state c.args.work.now).folder in let f2 = (g.W.Work.state c.enter.new.work).folder in
     let s = sides_of c.args.opts.now.compare c.in-Ok.entered.rules (g.A.Remote.state c.args.one.now) (g.B.Remote.state c.args.two.now) in
     let m : Matter c.args.opts.now f _ = record { rules = c.in-Ok.entered.rules; digest = c.in-Ok.entered.digest; are = c.in-Ok.ensures.rules (inl work) } in
-    let ok = after_good_was_ok _ _ c.held-ended.result c.close.result c.held-ended.ensures.causes.fault c.close.ensures.end good in (
-      c.in-Ok.ensures.free work,
-      (m, well_before c.args.opts.now c.args.limits.now f f2 (c.in-Ok.ensures.others work) s c.in-Ok.entered.digest (on_ok c.held-ended.result ok (c.held-ended.ensures.begun none work))),
-    )
+    let ok = after_good_was_ok _ _ c.held-ended.result c.close.result c.held-ended.ensures.causes.fault c.close.ensures.end good in
+    (c.in-Ok.ensures.free work, (m, well_before c.args.opts.now c.args.limits.now f f2 (c.in-Ok.ensures.others work) s c.in-Ok.entered.digest (on_ok c.held-ended.result ok (c.held-ended.ensures.begun none work))))
 
 pub returns-in-Err-clause-folder_base : goal.returns-in-Err-clause-folder_base
 returns-in-Err-clause-folder_base g c work =
@@ -462,3 +437,13 @@ pub returns-clause-outcome : goal.returns-clause-outcome
 returns-clause-outcome g c mode mode_is one two known dry good =
     let ok = after_good_was_ok _ _ c.held-ended.result c.close.result c.held-ended.ensures.causes.fault c.close.ensures.end good in
     (record { rules = c.in-Ok.entered.rules; digest = c.in-Ok.entered.digest; are = c.in-Ok.ensures.rules known }, on_ok c.held-ended.result ok (c.held-ended.ensures.outcome mode mode_is one two dry))
+
+pub returns-in-Err-clause-resync_fell : goal.returns-in-Err-clause-resync_fell
+returns-in-Err-clause-resync_fell g c mode mode_is work never bad = inl (c.in-Err.ensures.others work)
+
+pub returns-clause-resync_fell : goal.returns-clause-resync_fell
+returns-clause-resync_fell g c mode mode_is work never bad =
+    let still = no_rise_mid _ (g.W.Work.state c.enter.new.work).faults (g.W.Work.state c.held-ended.new.work).faults _ never c.in-Ok.ensures.causes.later.work c.close.ensures.later in
+    let last = no_rise_last _ (g.W.Work.state c.enter.new.work).faults (g.W.Work.state c.held-ended.new.work).faults _ never c.in-Ok.ensures.causes.later.work c.held-ended.ensures.causes.later.work in
+    resync_fell c.args.opts.now.resilient c.args.opts.now.dry_run c.held-ended.result c.close.result _ (g.W.Work.state c.enter.new.work).folder (g.W.Work.state c.held-ended.new.work).folder _
+    c.held-ended.ensures.well c.close.ensures.end bad (c.in-Ok.ensures.others work) (c.held-ended.ensures.fell mode mode_is work still) (c.close.ensures.kept work) (λ falls. c.close.ensures.fell work falls last)

@@ -4,7 +4,7 @@ use Rattle.bisync_run.specs.ResyncWriting.{next_base}
 use Rattle.bisync_run.proofs.BasesSetBack.{digest_past}
 use Rattle.bisync_run.proofs.CarriedOut.{none_or_next, carried_out}
 use Rattle.bisync_run.proofs.EndLaws.{rose_since}
-use Rattle.bisync_run.proofs.FallsAsLaws.{falls_as_twice, lock_falls_as, never_rose, rewritten_falls_as}
+use Rattle.bisync_run.proofs.FallsAsLaws.{falls_as_twice, lock_falls_as, never_rose, rewritten_falls_as, rewritten_fell}
 use Rattle.bisync_run.proofs.LockedFolders.{ready_past}
 use Rattle.bisync_run.proofs.OwnLocks.{own_around}
 use Rattle.bisync_run.proofs.resync_changes.carry_out.Goals as goal
@@ -96,3 +96,14 @@ pub returns-clause-own_lock : goal.returns-clause-own_lock
 returns-clause-own_lock g c work =
     own_around _ _ _ _ _ _ _ (ap (λ (w : WorkFolder). w.lock) (c.write_resync.ensures.rest work)) (c.in-Ok-do_steps.ensures.own_lock work)
     (ap (λ (w : WorkFolder). w.lock) (c.switch.ensures.switches work).rest)
+
+pub returns-in-Err-clause-fell : goal.returns-in-Err-clause-fell
+returns-in-Err-clause-fell g c work never = absurd (never (c.in-Err.ensures.calls.cause.rose refl))
+
+pub returns-in-Err-do_steps-clause-fell : goal.returns-in-Err-do_steps-clause-fell
+returns-in-Err-do_steps-clause-fell g c work never = rewritten_fell _ _ (g.W.Work.state c.do_steps.new.work).folder (c.in-Ok.ensures.rewritten work) (c.do_steps.ensures.lock work)
+
+pub returns-clause-fell : goal.returns-clause-fell
+returns-clause-fell g c work never =
+    never_rose _ (g.W.Work.state c.write_resync.new.work).faults _ c.write_resync.ensures.calls.cause.later
+    (rose_since _ (g.W.Work.state c.do_steps.new.work).faults _ (c.in-Err-switch.ensures.calls.cause.rose refl) c.do_steps.ensures.causes.later.work) never

@@ -6,6 +6,8 @@ use Rattle.bisync_run.specs.Sides.{sides_of}
 use Rattle.bisync_run.proofs.BasesSetBack.{late_held}
 use Rattle.bisync_run.proofs.DoneSteps.{looked_told}
 use Rattle.bisync_run.proofs.EndCases.{device_answers, step_may_change, told_device}
+use Rattle.bisync_run.specs.Counts.{Counts}
+use Rattle.bisync_run.proofs.FallsAsLaws.{fell_held}
 use Rattle.bisync_run.proofs.FolderBases.{carried_in_place, lost_or_next}
 use Rattle.bisync_run.proofs.HeldLaws.{untouched, same_windows, looked_base, are_within, aside_held, base_held, done_held, trees_held, mix_held, outcome_held, finds_held, lines_held, numbers_held}
 use Rattle.bisync_run.proofs.OwnLocks.{own_around}
@@ -255,3 +257,8 @@ returns-in-Ok-carry_out-clause-outcome g c one two dry =
     let f = (g.W.Work.state c.args.work.now).folder in
     outcome_held c.args.mode c.args.limits.now c.args.opts.now.compare c.args.entered.now.rules a b a2 b2 f f c.in-Ok.prepared (c.in-Ok.ensures.plan one two) looked windows refl
     (by_side (g.A.Remote.state c.carry_out.new.one) (g.B.Remote.state c.carry_out.new.two)) (c.in-Ok-carry_out.ensures.done one two)
+
+pub returns-clause-fell : goal.returns-clause-fell
+returns-clause-fell g c work never =
+    inr (fell_held _ (g.W.Work.state c.look_resync.new.work).folder _ _ (g.W.Work.state c.look_resync.new.work).faults (g.W.Work.state c.carry_out.new.work).faults (c.in-Ok.ensures.folder work)
+    (ap (λ (k : Counts). k.work) (c.in-Ok.ensures.causes.good refl)) (c.in-Err-carry_out.ensures.fell work) never)

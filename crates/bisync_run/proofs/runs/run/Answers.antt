@@ -11,7 +11,7 @@ use Rattle.bisync_run.specs.ResyncRuns.{HasNumbers, TellsRun}
 use Rattle.bisync_run.proofs.BeginningLaws.{begins_told}
 use Rattle.bisync_run.proofs.BuiltEnds.{told_built}
 use Rattle.bisync_run.proofs.ClosedEnds.{tells_last}
-use Rattle.bisync_run.proofs.ClosedKinds.{no_rise_first, own_told, early_told, fell_told, unfallen_told, freed_told, held_told, before_told, unlocked_told}
+use Rattle.bisync_run.proofs.ClosedKinds.{no_rise_first, own_told, early_told, fell_told, unfallen_told, freed_told, held_told, bad_told, before_told, unlocked_told}
 use Rattle.bisync_run.proofs.InSyncRuns.{in_sync_after, resync_in_sync_after, was_apart}
 use Rattle.bisync_run.proofs.EndLaws.{no_rise_since}
 use Rattle.bisync_run.proofs.FolderBases.{folder_base_told, folder_images}
@@ -333,3 +333,7 @@ returns-clause-unlocked g c work un =
 pub returns-clause-outcome : goal.returns-clause-outcome
 returns-clause-outcome g c mode is one two known dry good =
     c.run_to_close-end.ensures.outcome mode is one two known dry (after_good_told c.run_to_close-end.result c.tell_end.result c.tell_end.ensures.end good)
+
+pub returns-clause-resync_fell : goal.returns-clause-resync_fell
+returns-clause-resync_fell g c mode is work never bad =
+    c.run_to_close-end.ensures.resync_fell mode is work never (bad_told c.run_to_close-end.result c.tell_end.result c.tell_end.ensures.end bad)
