@@ -23,6 +23,7 @@ pub mod LockTimes
 pub mod AsPlanned
 pub mod StepEnds
 pub mod LockNewLaws
+pub mod CountedSteps
 pub mod StepsDone
 pub mod CoursesBefore
 pub mod ClosedEnds
@@ -54,6 +55,7 @@ pub mod BeginningLaws
 pub mod LookBeginnings
 pub mod WholeRefusals
 pub mod InSyncRuns
+pub mod CountedRuns
 pub mod FolderBases
 pub mod FallsAsLaws
 pub mod OwnLocks

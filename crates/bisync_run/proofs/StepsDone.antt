@@ -1,5 +1,5 @@
 -- What holds between two steps of a plan, and what a step adds to it.
-use Rattle.std.proofs.Common.{◌≡◌, ◌+◌, ◌++◌, [], ◌∷◌, ℕ, Bool, true, false, IsTrue, List, length, take, None, Result, Ok, Err, refl, sym, ◌∙◌, ap, subst, inl, inr, arith, append_assoc, length-append}
+use Rattle.std.proofs.Common.{◌≡◌, ◌+◌, ◌++◌, [], ◌∷◌, ℕ, Bool, true, false, IsTrue, List, length, take, None, Result, Ok, Err, refl, sym, ◌∙◌, ap, subst, inl, inr, arith, append_assoc, length-append, add-zero, sum_by}
 use Rattle.std.proofs.Math.Seq.{take-append_seam}
 use Rattle.std.specs.Option.{option_map}
 use Rattle.bisync_tree.specs.Tree.{entry}
@@ -11,6 +11,7 @@ use Rattle.bisync_device.specs.Remote.{RemoteState}
 use Rattle.bisync_device.specs.Work.{WorkState}
 use Rattle.bisync_device.specs.WorkFolder.{WorkFolder}
 use Rattle.bisync_model.specs.Trees.{Trees, by_side}
+use Rattle.bisync_model.specs.Changes.{changes_of}
 use Rattle.bisync_model.specs.Effects.{after as after_steps}
 use Rattle.bisync_model.proofs.StepEffects.{after-append}
 use Rattle.bisync_transfer.specs.CallsMade.{MadeCalls}
@@ -22,10 +23,12 @@ use Rattle.bisync_transfer.proofs.StepTreesLemmas.{none_done, leaves, goes_on}
 use Rattle.bisync_work.specs.Locks.{ChangesLock}
 use Rattle.bisync_report.specs.declared.ends.End.{End}
 use Rattle.bisync_report.specs.declared.ends.End.TheVariants.{WorkFault}
+use Rattle.bisync_run.specs.CountedChanges.{HasCounted}
 use Rattle.bisync_run.specs.Counts.{counts, Stops, HasCauses}
 use Rattle.bisync_run.specs.LockNew.{KeepsLockNew}
 use Rattle.bisync_run.specs.Stepping.{IsPartDone, FindsAll, end_of_step}
 use Rattle.bisync_run.proofs.AsPlanned.{AreAsPlanned, goes_planned}
+use Rattle.bisync_run.proofs.CountedSteps.{counts_more}
 use Rattle.bisync_run.proofs.LockNewLaws.{lock_new_twice}
 
 -- the first of the steps are done, the others are left, and no call of a remote failed
@@ -36,6 +39,8 @@ pub record Going (one two : Bool) (steps left : List Step) (start now : Side →
   pub windows : KeepsWindows start now
   pub unstopped : (side : Side) → (start side).left ≡ None → (now side).left ≡ None
   pub faults : (side : Side) → (now side).faults ≡ (start side).faults
+  -- a side that tells counted the changes of these steps
+  pub counted : (side : Side) → IsTrue (by_side one two side) → (now side).changes ≡ (start side).changes + sum_by (changes_of side) finished
   -- the tree of a side that tells is as the plan's
   pub planned : (x : FindsAll (by_side one two) steps start) → (side : Side) → IsTrue (by_side one two side)
       → AreAsPlanned x.policy.compare (now side).tree (after_steps x.policy.window finished x.trees side)
@@ -93,6 +98,7 @@ going_first one two steps left start is = record {
   windows = λ side. refl;
   unstopped = λ side n. n;
   faults = λ side. refl;
+  counted = λ side t. sym (add-zero (start side).changes);
   planned = λ x side t p. ap (option_map (entry x.policy.compare)) (sym (x.own side t p));
 }
 
@@ -108,6 +114,24 @@ all_done steps finished start now split are = subst (λ l. AreDone l start now) 
 
 pub done_now : (one two : Bool) (steps left : List Step) (start now : Side → RemoteState) → Going one two steps left start now → left ≡ [] → IsTrue one → IsTrue two → AreDone steps start now
 done_now one two steps left start now g none a b = all_done steps g.finished start now (g.split ∙ ap (λ l. g.finished ++ l) none) (g.are a b)
+
+all_finished : (steps finished : List Step) → steps ≡ finished ++ [] → steps ≡ finished
+all_finished steps finished split = split ∙ append_none finished
+  where
+    append_none : (l : List Step) → l ++ [] ≡ l
+    append_none [] = refl
+    append_none (x ∷ xs) = ap (λ l. x ∷ l) (append_none xs)
+
+pub counted_now : (one two : Bool) (steps left : List Step) (start now : Side → RemoteState) → Going one two steps left start now → left ≡ []
+    → (first second : ℕ) → first ≡ sum_by (changes_of One) steps → second ≡ sum_by (changes_of Two) steps → HasCounted (by_side one two) start now first second
+counted_now one two steps left start now g none first second one_is two_is = λ side t. g.counted side t ∙ ap (λ n. (start side).changes + n) (number side)
+  where
+    all : steps ≡ g.finished
+    all = all_finished steps g.finished (g.split ∙ ap (λ l. g.finished ++ l) none)
+
+    number : (side : Side) → sum_by (changes_of side) g.finished ≡ by_side first second side
+    number One = ap (sum_by (changes_of One)) (sym all) ∙ sym one_is
+    number Two = ap (sum_by (changes_of Two)) (sym all) ∙ sym two_is
 
 -- the number of the steps that are left
 pub fewer_left : (left next : List Step) (step : Step) (number fewer : ℕ) → length left ≡ number → left ≡ step ∷ next → fewer + 1 ≡ number → length next ≡ fewer
@@ -148,6 +172,7 @@ module _ (one two : Bool) (steps left next : List Step) (step : Step) (start bef
     windows = λ side. (calls side).window ∙ going.windows side;
     unstopped = λ side n. (calls side).unstopped (going.unstopped side n);
     faults = λ side. (calls side).cause.kept refl ∙ going.faults side;
+    counted = λ side t. counts_more (by_side one two) before after start going.finished step side t performs (going.counted side t);
     planned = λ x side t. planned_next performs x side t;
   }
 

@@ -10,6 +10,7 @@ pub mod Stepping
 pub mod ResyncWriting
 pub mod Closing
 pub mod Untouched
+pub mod CountedChanges
 pub mod CarryingOut
 pub mod Resyncs
 pub mod HeldResyncs

@@ -11,6 +11,7 @@ ghost use Rattle.bisync_work.specs.Locks.{ChangesLock, IsFree, KeepsBlocking};
 ghost use Rattle.bisync_work.specs.Moves.{IsFallen};
 ghost use Rattle.bisync_run.specs.Beginnings.{AnswersBeginningOf, IsWellBegunOf};
 ghost use Rattle.bisync_run.specs.Closing.{HasNoListings, but_fallen_or_lock};
+ghost use Rattle.bisync_run.specs.CountedChanges.{CountsChanges};
 ghost use Rattle.bisync_run.specs.Counts.{counts, Later, Ends};
 ghost use Rattle.bisync_run.specs.EndKinds.{is_good, is_after_good, has_freed, is_before_lock, is_unlocked, lets_fall, may_have_changed, may_tell_plan};
 ghost use Rattle.bisync_run.specs.Entering.{AtMoment, HasSomeRules, IsEntryEnd, IsHeldBack};
@@ -113,6 +114,7 @@ pub fn run_to_close<A: Remote, B: Remote, W: Work, C: Clock, S: Sink>(
     ensures held_back { IsTrue C.tells → IsHeldBack (C.moment clock.old) result }
     ensures grounds { HasGrounds limits.now (by_side A.tells B.tells) result }
     ensures told { IsTold (by_side A.tells B.tells) (by_side (A.state one.old) (B.state two.old)) result }
+    ensures counted { is_good result ≡ true → CountsChanges (by_side A.tells B.tells) (by_side (A.state one.old) (B.state two.old)) (by_side (A.state one.new) (B.state two.new)) result }
     ensures windows { ((A.state one.new).window ≡ (A.state one.old).window) × ((B.state two.new).window ≡ (B.state two.old).window) }
     ensures left1 { (A.state one.old).left ≡ None → (A.state one.new).left ≡ None }
     ensures left2 { (B.state two.old).left ≡ None → (B.state two.new).left ≡ None }

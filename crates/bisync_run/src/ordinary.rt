@@ -8,6 +8,7 @@ ghost use Rattle.bisync_device.specs.Remote.{KeepsTree};
 ghost use Rattle.bisync_device.specs.Work.{KeepsFolder};
 ghost use Rattle.bisync_opts.specs.Ranges.{IsInRange};
 ghost use Rattle.bisync_run.specs.Beginnings.{AnswersBeginning, IsWellBegun};
+ghost use Rattle.bisync_run.specs.CountedChanges.{CountsChanges};
 ghost use Rattle.bisync_run.specs.Counts.{counts, HasCauses};
 ghost use Rattle.bisync_run.specs.Courses.{is_only as is_only_of};
 ghost use Rattle.bisync_run.specs.EndKinds.{is_good, is_unlocked, may_have_changed, may_tell_plan};
@@ -70,6 +71,7 @@ pub fn ordinary<A: Remote, B: Remote, W: Work, C: Clock, S: Sink>(
     ensures set_back { IsTrue A.tells → IsTrue B.tells → IsTrue W.tells → LeavesBaseSetBack limits.now (compare_in opts.now.compare (A.state one.old).window (B.state two.old).window) (W.state work.old).folder (by_side (A.state one.old) (B.state two.old)) (W.state work.new).folder (by_side (A.state one.new) (B.state two.new)) }
     ensures folder_next { IsTrue W.tells → opts.now.dry_run ≡ false → opts.now.check_sync ≢ CheckSync.Only → OnOk result (HasNextInPlace limits.now (compare_in opts.now.compare (A.state one.old).window (B.state two.old).window) (W.state work.old).folder (W.state work.new).folder × IsSetBackTo limits.now (W.state work.old).folder (W.state work.new).folder) }
     ensures well { IfOk result (λ end. is_good end ≡ true) }
+    ensures counted { IfOk result (CountsChanges (by_side A.tells B.tells) (by_side (A.state one.old) (B.state two.old)) (by_side (A.state one.new) (B.state two.new))) }
     ensures only { is_unlocked (end_of result) ≡ false }
     ensures kind { IsOrdinaryEnd opts.now (compare_in opts.now.compare (A.state one.old).window (B.state two.old).window) (end_of result) }
     ensures lock_new { IsTrue W.tells → IsOk result ⊎ (Rose (W.state work.old).faults (W.state work.new).faults → ⊥) → KeepsLockNew (W.state work.old).folder (W.state work.new).folder }

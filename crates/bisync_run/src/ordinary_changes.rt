@@ -12,6 +12,7 @@ ghost use Rattle.bisync_work.specs.declared.bases.Pair.TheVariants.{Old};
 ghost use Rattle.bisync_work.specs.Base.{Base, HasBaseIn, IsBase};
 ghost use Rattle.bisync_work.specs.Moves.{KeepsBase};
 ghost use Rattle.bisync_work.specs.WorkCalls.{AreWorkCalls};
+ghost use Rattle.bisync_run.specs.CountedChanges.{HasCounted};
 ghost use Rattle.bisync_run.specs.Counts.{counts, HasCauses};
 ghost use Rattle.bisync_run.specs.EndKinds.{may_have_switched_after};
 ghost use Rattle.bisync_run.specs.LeftNames.{FallsAs, KeepsOwnLock};
@@ -78,6 +79,7 @@ pub fn carry_out_ordinary<A: Remote, B: Remote, W: Work, C: Clock>(
     ensures done { IsTrue A.tells → IsTrue B.tells → OnOk result (AreDone prepared.plan.steps.items (by_side (A.state one.old) (B.state two.old)) (by_side (A.state one.new) (B.state two.new))) }
     ensures part { IsTrue A.tells → IsTrue B.tells → IsPartDone prepared.plan.steps.items (by_side (A.state one.old) (B.state two.old)) (by_side (A.state one.new) (B.state two.new)) }
     ensures changes { IfOk result (λ changes. (changes.one ≡ sum_by (changes_of Side.One) prepared.plan.steps.items) × (changes.two ≡ sum_by (changes_of Side.Two) prepared.plan.steps.items)) }
+    ensures counted { IfOk result (λ changes. HasCounted (by_side A.tells B.tells) (by_side (A.state one.old) (B.state two.old)) (by_side (A.state one.new) (B.state two.new)) changes.one changes.two) }
     ensures end { IfErr result IsStepEnd }
     ensures moved { IfErr result MovedDiffers }
     ensures read { IfErr result MovedIsRead }

@@ -9,6 +9,7 @@ ghost use Rattle.bisync_device.specs.Work.{KeepsFolder};
 ghost use Rattle.bisync_opts.specs.Ranges.{IsInRange};
 ghost use Rattle.bisync_run.specs.CarryingOut.{AreSetAside, but_carried};
 ghost use Rattle.bisync_work.specs.Moves.{IsFallen};
+ghost use Rattle.bisync_run.specs.CountedChanges.{CountsChanges};
 ghost use Rattle.bisync_run.specs.Counts.{counts, HasCauses};
 ghost use Rattle.bisync_run.specs.EndKinds.{is_good, is_unlocked, may_have_changed, may_tell_plan};
 ghost use Rattle.bisync_run.specs.FolderBases.{HasNextInPlace, LosesOrTakesNext};
@@ -62,6 +63,7 @@ pub fn resync<A: Remote, B: Remote, W: Work, C: Clock, S: Sink>(
     ensures accepted { IsTrue A.tells → IsTrue B.tells → IsTrue W.tells →
         OnOk result (HasNoResyncRefusal mode limits.now (W.state work.old).folder (sides_of opts.now.compare entered.now.rules (A.state one.old) (B.state two.old))) }
     ensures well { IfOk result (λ end. is_good end ≡ true) }
+    ensures counted { IfOk result (CountsChanges (by_side A.tells B.tells) (by_side (A.state one.old) (B.state two.old)) (by_side (A.state one.new) (B.state two.new))) }
     ensures only { is_unlocked (end_of result) ≡ false }
     ensures kind { IsResyncEnd opts.now (end_of result) }
     ensures lock_new { IsTrue W.tells → IsOk result ⊎ (Rose (W.state work.old).faults (W.state work.new).faults → ⊥) → KeepsLockNew (W.state work.old).folder (W.state work.new).folder }

@@ -1,6 +1,6 @@
 //! One run.
 
-ghost use Rattle.std.specs.Prelude.{◌≡◌, ◌≢◌, ◌⊎◌, ◌++◌, ◌||◌, ℕ, List, Option, IsTrue, None, Some, true, false};
+ghost use Rattle.std.specs.Prelude.{◌≡◌, ◌≢◌, ◌⊎◌, ◌+◌, ◌++◌, ◌||◌, ℕ, List, Option, IsTrue, None, Some, true, false};
 ghost use Rattle.bisync_tree.specs.Rows.{PathBytes};
 ghost use Rattle.bisync_tree.specs.declared.entries.Entry.{Entry};
 ghost use Rattle.bisync_tree.specs.declared.options.Prefer.{Prefer};
@@ -10,7 +10,7 @@ ghost use Rattle.bisync_device.specs.Remote.{KeepsTree};
 ghost use Rattle.bisync_device.specs.WorkFolder.{Absent, WorkFolder, IsSettled, IsImage};
 ghost use Rattle.bisync_opts.specs.Ranges.{IsInRange};
 ghost use Rattle.bisync_report.specs.LastLine.{last_text};
-ghost use Rattle.bisync_report.specs.declared.ends.End.TheVariants.{OutOfSync};
+ghost use Rattle.bisync_report.specs.declared.ends.End.TheVariants.{Done, OutOfSync, Resynced};
 ghost use Rattle.bisync_work.specs.Locks.{ChangesLock, IsFree, KeepsBlocking};
 ghost use Rattle.bisync_work.specs.Moves.{IsFallen};
 ghost use Rattle.bisync_run.specs.Agreement.{LeavesInSync, LeavesResyncInSync, WasApartBefore};
@@ -87,6 +87,8 @@ pub fn run<A: Remote, B: Remote, W: Work, C: Clock, S: Sink>(
     ensures resync_in_sync { (mode : Prefer) → opts.now.resync ≡ Some mode → IsTrue A.tells → IsTrue B.tells → IsTrue W.tells → opts.now.dry_run ≡ false → is_after_good result ≡ true →
         LeavesResyncInSync mode opts.now (W.state work.old).folder (by_side (A.state one.old) (B.state two.old)) (by_side (A.state one.new) (B.state two.new)) }
     ensures run_numbers { opts.now.resync ≡ None → IsTrue A.tells → IsTrue B.tells → IsTrue W.tells → is_good result ≡ true → HasOrdinaryNumbers opts.now limits.now (W.state work.old).folder (by_side (A.state one.old) (B.state two.old)) result }
+    ensures counted1 { IsTrue A.tells → (first second : ℕ) → (result ≡ Done first second) ⊎ (result ≡ Resynced first second) → (A.state one.new).changes ≡ (A.state one.old).changes + first }
+    ensures counted2 { IsTrue B.tells → (first second : ℕ) → (result ≡ Done first second) ⊎ (result ≡ Resynced first second) → (B.state two.new).changes ≡ (B.state two.old).changes + second }
     ensures run_base { opts.now.resync ≡ None → IsTrue A.tells → IsTrue B.tells → IsTrue W.tells →
         LeavesOrdinaryBaseOf opts.now limits.now (W.state work.old).folder (by_side (A.state one.old) (B.state two.old)) (W.state work.new).folder (by_side (A.state one.new) (B.state two.new)) }
     ensures resilient_base { opts.now.resync ≡ None → IsTrue A.tells → IsTrue B.tells → IsTrue W.tells → (opts.now.resilient || opts.now.dry_run) ≡ true →

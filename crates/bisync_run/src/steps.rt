@@ -9,6 +9,7 @@ ghost use Rattle.bisync_device.specs.Faults.{HasCause, Rose};
 ghost use Rattle.bisync_transfer.specs.StepEffect.{changed_side};
 ghost use Rattle.bisync_transfer.specs.StepTrees.{AreDone};
 ghost use Rattle.bisync_work.specs.Locks.{ChangesLock};
+ghost use Rattle.bisync_run.specs.CountedChanges.{HasCounted};
 ghost use Rattle.bisync_run.specs.Counts.{counts, HasCauses};
 ghost use Rattle.bisync_run.specs.LeftNames.{KeepsOwnLock};
 ghost use Rattle.bisync_run.specs.LockNew.{KeepsLockNew};
@@ -53,6 +54,7 @@ pub fn do_steps<A: Remote, B: Remote, W: Work, C: Clock>(
     ensures done { IsTrue A.tells → IsTrue B.tells → OnOk result (AreDone steps.items (by_side (A.state one.old) (B.state two.old)) (by_side (A.state one.new) (B.state two.new))) }
     ensures part { IsTrue A.tells → IsTrue B.tells → IsPartDone steps.items (by_side (A.state one.old) (B.state two.old)) (by_side (A.state one.new) (B.state two.new)) }
     ensures changes { IfOk result (λ changes. (changes.one ≡ sum_by (changes_of Side.One) steps.items) × (changes.two ≡ sum_by (changes_of Side.Two) steps.items)) }
+    ensures counted { IfOk result (λ changes. HasCounted (by_side A.tells B.tells) (by_side (A.state one.old) (B.state two.old)) (by_side (A.state one.new) (B.state two.new)) changes.one changes.two) }
     ensures end { IfErr result IsStepEnd }
     ensures found { FindsAll (by_side A.tells B.tells) steps.items (by_side (A.state one.old) (B.state two.old)) → IfErr result (FindsTold (by_side A.tells B.tells)) }
     ensures moved { IfErr result MovedDiffers }

@@ -8,6 +8,7 @@ use Rattle.bisync_run.specs.Sides.{compare_in, sides_of}
 use Rattle.bisync_run.proofs.BeginningLaws.{begun_by, compared_begins, compared_begun, look_begins, start_begins, step_begins}
 use Rattle.bisync_run.proofs.BasesSetBack.{ordinary_set_back, untouched_set_back}
 use Rattle.bisync_run.proofs.CauseLaws.{fails}
+use Rattle.bisync_run.proofs.CountedRuns.{counted_since}
 use Rattle.bisync_run.proofs.DoneSteps.{looked_told}
 use Rattle.bisync_run.proofs.EndCases.{false_true, step_may_change, told_device}
 use Rattle.bisync_run.proofs.FallsAsLaws.{falls_as_held}
@@ -356,7 +357,6 @@ returns-clause-falls_as g c work never =
     falls_as_held _ (g.W.Work.state c.start.new.work).folder _ _ (g.W.Work.state c.start.new.work).faults (g.W.Work.state c.carry_out_ordinary.new.work).faults (c.in-Ok.ensures.folder work)
     (work_same (g.W.Work.state c.args.work.now).faults (g.W.Work.state c.start.new.work).faults c.in-Ok.started c.in-Ok.ensures.causes) (c.in-Err-carry_out_ordinary.ensures.falls_as work) never
 
-
 pub returns-in-Ok-carry_out_ordinary-clause-set_back : goal.returns-in-Ok-carry_out_ordinary-clause-set_back
 returns-in-Ok-carry_out_ordinary-clause-set_back g c one two work =
     ordinary_set_back c.args.opts.now c.args.limits.now _ c.args.entered.now.digest (g.W.Work.state c.args.work.now).folder (g.W.Work.state c.start.new.work).folder (c.in-Ok.ensures.folder work) c.in-Ok.started (c.in-Ok.ensures.starts work) c.in-Ok-look_ordinary.look
@@ -374,3 +374,6 @@ returns-clause-set_back g c one two work =
     c.in-Ok-look_ordinary.ensures.compare (omega arith) (are_within c.args.limits.now (prepared_of c.in-Ok.started.stamp c.in-Ok-look_ordinary.look) c.in-Ok-look_ordinary.ensures.within1 c.in-Ok-look_ordinary.ensures.within2)
     (by_side (g.A.Remote.state c.args.one.now) (g.B.Remote.state c.args.two.now)) (by_side (g.A.Remote.state c.look_ordinary.new.one) (g.B.Remote.state c.look_ordinary.new.two)) (by_side (g.A.Remote.state c.carry_out_ordinary.new.one) (g.B.Remote.state c.carry_out_ordinary.new.two)) (g.W.Work.state c.carry_out_ordinary.new.work).folder
     (untouched _ _ _ _ (c.in-Ok-look_ordinary.ensures.one.tree one) (c.in-Ok-look_ordinary.ensures.two.tree two)) (c.in-Err-carry_out_ordinary.ensures.set_back one two work)
+
+pub returns-in-Ok-carry_out_ordinary-clause-counted : goal.returns-in-Ok-carry_out_ordinary-clause-counted
+returns-in-Ok-carry_out_ordinary-clause-counted g c = counted_since g.A.Remote.tells g.B.Remote.tells (g.A.Remote.state c.args.one.now) (g.B.Remote.state c.args.two.now) (g.A.Remote.state c.look_ordinary.new.one) (g.B.Remote.state c.look_ordinary.new.two) c.in-Ok-look_ordinary.ensures.one.tree c.in-Ok-look_ordinary.ensures.two.tree (by_side (g.A.Remote.state c.carry_out_ordinary.new.one) (g.B.Remote.state c.carry_out_ordinary.new.two)) c.in-Ok-carry_out_ordinary.changes.one c.in-Ok-carry_out_ordinary.changes.two c.in-Ok-carry_out_ordinary.ensures.counted

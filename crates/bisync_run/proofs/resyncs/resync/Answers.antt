@@ -4,6 +4,7 @@ use Rattle.bisync_device.specs.WorkFolder.{WorkFolder}
 use Rattle.bisync_model.specs.Trees.{by_side}
 use Rattle.bisync_run.specs.Sides.{sides_of}
 use Rattle.bisync_run.proofs.BasesSetBack.{late_held}
+use Rattle.bisync_run.proofs.CountedRuns.{counted_since}
 use Rattle.bisync_run.proofs.DoneSteps.{looked_told}
 use Rattle.bisync_run.proofs.EndCases.{device_answers, step_may_change, told_device}
 use Rattle.bisync_run.specs.Counts.{Counts}
@@ -208,8 +209,6 @@ returns-clause-folder_base g c work =
     lost_or_next c.args.limits.now _ f f2 (c.in-Ok.ensures.folder work) c.in-Ok.prepared c.in-Ok.ensures.compare (c.in-Ok.ensures.new_stamp work) (g.W.Work.state c.carry_out.new.work).folder _
     (c.in-Err-carry_out.ensures.folder_base work c.args.limits.now.listing small fits)
 
-
-
 pub returns-in-Ok-carry_out-clause-digest_late : goal.returns-in-Ok-carry_out-clause-digest_late
 returns-in-Ok-carry_out-clause-digest_late g c work =
     let fits = are_within c.args.limits.now c.in-Ok.prepared c.in-Ok.ensures.within1 c.in-Ok.ensures.within2 in
@@ -262,3 +261,11 @@ pub returns-clause-fell : goal.returns-clause-fell
 returns-clause-fell g c work never =
     inr (fell_held _ (g.W.Work.state c.look_resync.new.work).folder _ _ (g.W.Work.state c.look_resync.new.work).faults (g.W.Work.state c.carry_out.new.work).faults (c.in-Ok.ensures.folder work)
     (ap (λ (k : Counts). k.work) (c.in-Ok.ensures.causes.good refl)) (c.in-Err-carry_out.ensures.fell work) never)
+
+-- # The numbers of changes
+
+pub returns-in-Ok-carry_out-clause-counted : goal.returns-in-Ok-carry_out-clause-counted
+returns-in-Ok-carry_out-clause-counted g c =
+    counted_since g.A.Remote.tells g.B.Remote.tells (g.A.Remote.state c.args.one.now) (g.B.Remote.state c.args.two.now) (g.A.Remote.state c.look_resync.new.one) (g.B.Remote.state c.look_resync.new.two)
+    c.in-Ok.ensures.one.tree c.in-Ok.ensures.two.tree (by_side (g.A.Remote.state c.carry_out.new.one) (g.B.Remote.state c.carry_out.new.two))
+    c.in-Ok-carry_out.changes.one c.in-Ok-carry_out.changes.two c.in-Ok-carry_out.ensures.counted

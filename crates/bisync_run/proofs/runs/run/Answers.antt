@@ -1,6 +1,7 @@
 use Rattle.std.proofs.Common.{◌≡◌, ◌<◌, ◌^◌, ◌∙◌, ◌++◌, ap, arith, inl, inr, sym, subst, true, List, ℕ}
 use Rattle.bisync_device.specs.Sink.{SinkState}
 use Rattle.bisync_model.specs.Trees.{by_side}
+use Rattle.bisync_tree.specs.declared.sides.Side.TheVariants.{One, Two}
 use Rattle.bisync_report.specs.LastLine.{last_text}
 use Rattle.bisync_report.specs.declared.ends.End.{End}
 use Rattle.bisync_run.specs.Beginnings.{AnswersBeginningOf}
@@ -12,6 +13,7 @@ use Rattle.bisync_run.proofs.BeginningLaws.{begins_told}
 use Rattle.bisync_run.proofs.BuiltEnds.{told_built}
 use Rattle.bisync_run.proofs.ClosedEnds.{tells_last}
 use Rattle.bisync_run.proofs.ClosedKinds.{no_rise_first, own_told, early_told, fell_told, unfallen_told, freed_told, held_told, bad_told, before_told, unlocked_told}
+use Rattle.bisync_run.proofs.CountedRuns.{counted_told}
 use Rattle.bisync_run.proofs.InSyncRuns.{in_sync_after, resync_in_sync_after, was_apart}
 use Rattle.bisync_run.proofs.EndLaws.{no_rise_since}
 use Rattle.bisync_run.proofs.FolderBases.{folder_base_told, folder_images}
@@ -337,3 +339,17 @@ returns-clause-outcome g c mode is one two known dry good =
 pub returns-clause-resync_fell : goal.returns-clause-resync_fell
 returns-clause-resync_fell g c mode is work never bad =
     c.run_to_close-end.ensures.resync_fell mode is work never (bad_told c.run_to_close-end.result c.tell_end.result c.tell_end.ensures.end bad)
+
+-- # The numbers of changes
+
+pub returns-clause-counted1 : goal.returns-clause-counted1
+returns-clause-counted1 g c tells first second is =
+    let start = by_side (g.A.Remote.state c.args.one.now) (g.B.Remote.state c.args.two.now) in
+    let now = by_side (g.A.Remote.state c.run_to_close-end.new.one) (g.B.Remote.state c.run_to_close-end.new.two) in
+    counted_told (by_side g.A.Remote.tells g.B.Remote.tells) start now c.run_to_close-end.result c.tell_end.result c.tell_end.ensures.end c.run_to_close-end.ensures.counted first second is One tells
+
+pub returns-clause-counted2 : goal.returns-clause-counted2
+returns-clause-counted2 g c tells first second is =
+    let start = by_side (g.A.Remote.state c.args.one.now) (g.B.Remote.state c.args.two.now) in
+    let now = by_side (g.A.Remote.state c.run_to_close-end.new.one) (g.B.Remote.state c.run_to_close-end.new.two) in
+    counted_told (by_side g.A.Remote.tells g.B.Remote.tells) start now c.run_to_close-end.result c.tell_end.result c.tell_end.ensures.end c.run_to_close-end.ensures.counted first second is Two tells

@@ -7,7 +7,7 @@ use Rattle.bisync_run.proofs.EndCases.{false_true}
 use Rattle.bisync_run.proofs.LockNewLaws.{lock_new_twice, kept_lock_new}
 use Rattle.bisync_run.proofs.OwnLocks.{own_next}
 use Rattle.bisync_run.proofs.StepEnds.{found_end, moved_differs, moved_is_read}
-use Rattle.bisync_run.proofs.StepsDone.{part_now, done_now, both, going_next, keeping_next, fewer_left, none_left, split_here, part_end, causes_end, causes_lock, causes_none}
+use Rattle.bisync_run.proofs.StepsDone.{part_now, done_now, counted_now, both, going_next, keeping_next, fewer_left, none_left, split_here, part_end, causes_end, causes_lock, causes_none}
 use Rattle.bisync_run.proofs.steps.do_steps.Goals as goal
 
 -- # The lock could not be written
@@ -126,6 +126,12 @@ pub returns-clause-done : goal.returns-clause-done
 returns-clause-done g c =
     let i = c.loop-step.invariant in
     done_now _ _ _ _ _ _ i.2 (none_left _ _ i.5 c.in-None.ensures.steps.0)
+
+pub returns-clause-counted : goal.returns-clause-counted
+returns-clause-counted g c =
+    let i = c.loop-step.invariant in
+    let n = c.count_changes-changes.ensures in
+    counted_now _ _ _ _ _ _ i.2 (none_left _ _ i.5 c.in-None.ensures.steps.0) _ _ n.one n.two
 
 pub returns-clause-part : goal.returns-clause-part
 returns-clause-part g c = part_now _ _ _ _ _ _ c.loop-step.invariant.2
