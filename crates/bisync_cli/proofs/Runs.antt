@@ -1,15 +1,16 @@
 -- What is known of the run that words ask for.
-use Rattle.std.proofs.Common.{◌≡◌, ◌∙◌, ◌<◌, ◌^◌, pos, refl, ap, sym, subst, inl, true, false, Some, None, Result, Ok, Err}
+use Rattle.std.proofs.Common.{◌≡◌, ◌∙◌, ◌<◌, ◌^◌, ℤ, Bool, pos, refl, ap, sym, subst, inl, inr, true, false, Some, None, Result, Ok, Err}
 use Rattle.std.specs.Prelude.{◌≢◌, ◌||◌}
 use Rattle.bisync_tree.specs.declared.options.Limits.{Limits}
 use Rattle.bisync_tree.specs.declared.options.Prefer.{Prefer}
-use Rattle.bisync_device.specs.WorkFolder.{WorkFolder, IsSettled, IsImage}
+use Rattle.bisync_device.specs.WorkFolder.{Held, WorkFolder, IsSettled, IsImage}
 use Rattle.bisync_opts.specs.declared.faults.UsageKind.{UsageKind}
 use Rattle.bisync_opts.specs.declared.options.Opts.{Opts}
 use Rattle.bisync_report.specs.declared.ends.End.{End}
 use Rattle.bisync_report.specs.declared.ends.End.TheVariants.{Done, Resynced, DryRun, InSync, Demo, Usage, WorkFault, NoFilters, BadRule, Locked, FiltersChanged, BadListing, NeedResync, ListingsDiffer, EmptyPrior, RemoteFault, BadPath, TooMany, CheckAccess, EmptyCurrent, TooManyDeletes, AllChanged, NameTooLong, ListingTooLong, OutOfSync, Moved, SinkFault, LockLeft, FoldersLeft, KeepFault, Checked, NotBuilt, OutOfMemory}
 use Rattle.bisync_run.specs.Counts.{Counts, Ends}
 use Rattle.bisync_run.specs.FolderBases.{LeavesFolderBase}
+use Rattle.bisync_run.specs.LeftNames.{LeavesOwnLock}
 use Rattle.bisync_run.specs.OrdinaryRuns.{KeepsOrdinaryBaseOf, KeepsSafe, LeavesOrdinaryBaseOf}
 use Rattle.bisync_run.specs.ResyncRuns.{LeavesBaseOf}
 use Rattle.bisync_run.specs.Untouched.{Remotes}
@@ -63,6 +64,12 @@ safe_same (Ok (Run opts)) One Two Works limits small f start = λ none one two w
     keeps_safe opts limits small f start false (pos 0) image start (λ base was. inl ((image_keeps limits.listing f image settled image_is).base base was)) (inl (untouched_same start))
 safe_same (Ok NoTask) One Two Works limits small f start = tt
 safe_same (Err kind) One Two Works limits small f start = tt
+
+-- a run that came to nothing left the lock as it was
+pub own_lock_same : (read : Result Task UsageKind) (Works : Type 0) (told : Bool) (moment : ℤ) (lock : Held) → OfTask read (λ opts. Works → LeavesOwnLock opts.max_lock told moment OutOfMemory lock lock)
+own_lock_same (Ok (Run opts)) Works told moment lock = λ work. inr (inr (refl, (moment, (λ clock. refl), inl (inl refl))))
+own_lock_same (Ok NoTask) Works told moment lock = tt
+own_lock_same (Err kind) Works told moment lock = tt
 
 -- a run that has its cause, and isn't one that isn't built, refuses no words
 is_run_end : (old new : Counts) (end : End) → Ends old new end → end ≢ NotBuilt → IsRunEnd end

@@ -1,6 +1,6 @@
 //! The top call.
 
-ghost use Rattle.std.specs.Prelude.{◌≡◌, ◌≢◌, ◌⊎◌, ◌++◌, ◌||◌, ℕ, List, Option, IsTrue, None, Some, true, false};
+ghost use Rattle.std.specs.Prelude.{◌≡◌, ◌≢◌, ◌⊎◌, ◌+◌, ◌++◌, ◌||◌, ℕ, List, Option, IsTrue, None, Some, true, false};
 ghost use Rattle.bisync_tree.specs.Rows.{PathBytes};
 ghost use Rattle.bisync_tree.specs.declared.entries.Entry.{Entry};
 ghost use Rattle.bisync_model.specs.Trees.{by_side};
@@ -10,24 +10,8 @@ ghost use Rattle.bisync_work.specs.Locks.{ChangesLock, IsFree, KeepsBlocking};
 ghost use Rattle.bisync_work.specs.Moves.{IsFallen};
 ghost use Rattle.bisync_report.specs.LastLine.{last_text};
 ghost use Rattle.bisync_report.specs.Status.{status_of};
-ghost use Rattle.bisync_report.specs.declared.ends.End.TheVariants.{OutOfSync};
-ghost use Rattle.bisync_run.specs.Agreement.{LeavesInSync, LeavesResyncInSync, WasApartBefore};
-ghost use Rattle.bisync_run.specs.Beginnings.{AnswersBeginningOf, IsWellBegunOf};
-ghost use Rattle.bisync_run.specs.Closing.{HasNoListings, but_fallen_or_lock};
-ghost use Rattle.bisync_run.specs.Counts.{counts, Later, Ends};
-ghost use Rattle.bisync_run.specs.EndKinds.{is_good, has_freed, is_before_lock, is_unlocked, lets_fall, may_have_changed, may_tell_plan};
-ghost use Rattle.bisync_run.specs.Entering.{AtMoment, HasSomeRules, IsEntryEnd, IsHeldBack};
-ghost use Rattle.bisync_run.specs.FilterRules.{KnowsRules};
-ghost use Rattle.bisync_run.specs.FolderBases.{LeavesFolderBase, LeavesNextInPlace, Writes, compared};
-ghost use Rattle.bisync_run.specs.Grounds.{HasGrounds, IsTold};
-ghost use Rattle.bisync_run.specs.LeftNames.{LeavesBaseSetBack, LeavesOwnLock, StoresDigestLate};
-ghost use Rattle.bisync_run.specs.LockNew.{KeepsLockNew};
-ghost use Rattle.bisync_run.specs.Ordinary.{KeepsOrdinaryRest};
-ghost use Rattle.bisync_run.specs.OrdinaryEnds.{IsOrdinaryEnd};
-ghost use Rattle.bisync_run.specs.OrdinaryRuns.{AnswersOrdinaryRun, HasOrdinaryNumbers, IsDoneBy, IsUnrefused, KeepsOrdinaryBaseOf, KeepsSafe, LeavesOrdinaryBaseOf, LeavesOrdinaryTreesOf, TellsOrdinaryRun};
-ghost use Rattle.bisync_run.specs.ResyncEnds.{IsResyncEnd};
-ghost use Rattle.bisync_run.specs.ResyncRuns.{HasOutcomeOf, LeavesMixOf, AnswersRun, AreSetAsideBy, HasNoRefusal, IsResyncedBy, HasNumbers, LeavesBaseOf, LeavesTreesOf, TellsRun, LeavesLock, but_run};
-ghost use Rattle.bisync_run.specs.Sides.{compare_in};
+ghost use Rattle.bisync_report.specs.declared.ends.End.TheVariants.{Done, OutOfSync, Resynced};
+ghost use Rattle.bisync_cli.specs.RunPromises.{AnswersBeginningOf, AnswersOrdinaryRun, AnswersRun, AreSetAsideBy, AtMoment, but_fallen_or_lock, but_run, compare_in, compared, counts, Ends, has_freed, HasGrounds, HasNoListings, HasNoRefusal, HasNumbers, HasOrdinaryNumbers, HasOutcomeOf, HasSomeRules, is_after_good, is_before_lock, is_good, is_unlocked, IsDoneBy, IsEntryEnd, IsHeldBack, IsOrdinaryEnd, IsResyncedBy, IsResyncEnd, IsTold, IsUnrefused, IsWellBegunOf, KeepsLockNew, KeepsOrdinaryBaseOf, KeepsOrdinaryRest, KeepsSafe, KnowsRules, Later, LeavesBaseOf, LeavesBaseSetBack, LeavesFolderBase, LeavesInSync, LeavesLock, LeavesMixOf, LeavesNextInPlace, LeavesOrdinaryBaseOf, LeavesOrdinaryTreesOf, LeavesOwnLock, LeavesResyncInSync, LeavesTreesOf, lets_fall, may_have_changed, may_tell_plan, StoresDigestLate, TellsOrdinaryRun, TellsRun, WasApartBefore, Writes};
 ghost use Rattle.bisync_cli.specs.Tasks.{AfterGood, AllTell, OfOrdinary, OfResync, OfRun, Stood, task_in, asks_run, is_resilient};
 ghost use Rattle.bisync_cli.specs.Ends.{EndsBy};
 
@@ -74,12 +58,15 @@ pub fn bisync_main<A: Folders, B: Folders, K: Remote, L: Remote, W: Work, C: Clo
     ensures trees { OfResync words.now (λ opts mode. AllTell A.tells B.tells W.tells (LeavesTreesOf mode opts Limits.REAL (W.state work.old).folder (by_side (A.state one.old) (B.state two.old)) C.tells (C.moment clock.old) (by_side (A.state one.new) (B.state two.new)))) }
     ensures mixed { OfResync words.now (λ opts mode. IsTrue A.tells → IsTrue B.tells → KnowsRules W.tells opts.filters → LeavesMixOf mode opts (W.state work.old).folder (by_side (A.state one.old) (B.state two.old)) (by_side (A.state one.new) (B.state two.new))) }
     ensures outcome { OfResync words.now (λ opts mode. IsTrue A.tells → IsTrue B.tells → KnowsRules W.tells opts.filters → opts.dry_run ≡ false → AfterGood result.end → HasOutcomeOf mode opts (W.state work.old).folder (by_side (A.state one.old) (B.state two.old)) (by_side (A.state one.new) (B.state two.new))) }
+    ensures resync_fell { OfResync words.now (λ opts mode. IsTrue W.tells → Stood (W.state work.old).faults (W.state work.new).faults → is_after_good result.end ≡ false → ChangesLock (W.state work.old).folder (W.state work.new).folder ⊎ IsFallen (W.state work.old).folder (W.state work.new).folder) }
     ensures run_answers { OfOrdinary words.now (λ opts. AllTell A.tells B.tells W.tells (AnswersOrdinaryRun opts Limits.REAL (W.state work.old).folder (by_side (A.state one.old) (B.state two.old)) C.tells (C.moment clock.old) result.end)) }
     ensures unrefused { OfOrdinary words.now (λ opts. AllTell A.tells B.tells W.tells (AfterGood result.end → IsUnrefused opts Limits.REAL (W.state work.old).folder (by_side (A.state one.old) (B.state two.old)) C.tells (C.moment clock.old))) }
     ensures begins { OfOrdinary words.now (λ opts. IsTrue W.tells → AnswersBeginningOf opts Limits.REAL (W.state work.old).folder (by_side (A.state one.old) (B.state two.old)) C.tells (C.moment clock.old) result.end) }
     ensures begun { OfOrdinary words.now (λ opts. IsTrue W.tells → AfterGood result.end → IsWellBegunOf opts Limits.REAL (W.state work.old).folder (by_side (A.state one.old) (B.state two.old)) C.tells (C.moment clock.old)) }
     ensures done { OfOrdinary words.now (λ opts. AllTell A.tells B.tells W.tells (opts.dry_run ≡ false → opts.check_sync ≢ CheckSync.Only → AfterGood result.end → IsDoneBy opts Limits.REAL (W.state work.old).folder (by_side (A.state one.old) (B.state two.old)) (W.state work.new).folder (by_side (A.state one.new) (B.state two.new)))) }
     ensures in_sync { OfOrdinary words.now (λ opts. AllTell A.tells B.tells W.tells (opts.dry_run ≡ false → opts.check_sync ≢ CheckSync.Only → AfterGood result.end → LeavesInSync opts Limits.REAL (W.state work.old).folder (by_side (A.state one.old) (B.state two.old)) (by_side (A.state one.new) (B.state two.new)))) }
+    ensures counted1 { IsTrue A.tells → (n m : ℕ) → (result.end ≡ Done n m) ⊎ (result.end ≡ Resynced n m) → (A.state one.new).changes ≡ (A.state one.old).changes + n }
+    ensures counted2 { IsTrue B.tells → (n m : ℕ) → (result.end ≡ Done n m) ⊎ (result.end ≡ Resynced n m) → (B.state two.new).changes ≡ (B.state two.old).changes + m }
     ensures was_apart { OfOrdinary words.now (λ opts. IsTrue W.tells → (p : PathBytes) (first second : Option Entry) → result.end ≡ OutOfSync p first second → WasApartBefore opts Limits.REAL (W.state work.old).folder (by_side (A.state one.old) (B.state two.old))) }
     ensures resync_in_sync { OfResync words.now (λ opts mode. AllTell A.tells B.tells W.tells (opts.dry_run ≡ false → AfterGood result.end → LeavesResyncInSync mode opts (W.state work.old).folder (by_side (A.state one.old) (B.state two.old)) (by_side (A.state one.new) (B.state two.new)))) }
     ensures run_numbers { OfOrdinary words.now (λ opts. AllTell A.tells B.tells W.tells (is_good result.end ≡ true → HasOrdinaryNumbers opts Limits.REAL (W.state work.old).folder (by_side (A.state one.old) (B.state two.old)) result.end)) }

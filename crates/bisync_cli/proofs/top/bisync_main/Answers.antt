@@ -3,7 +3,7 @@ use Rattle.bisync_tree.specs.declared.options.TheConstants.Limits.{REAL}
 use Rattle.bisync_model.specs.Trees.{by_side}
 use Rattle.bisync_run.proofs.BlockedFolders.{blocked_same}
 use Rattle.bisync_cli.specs.Tasks.{task_in}
-use Rattle.bisync_cli.proofs.Runs.{of_run, folder_images_same, images_same, run_images_same, kept_images_same, safe_same, ends_run}
+use Rattle.bisync_cli.proofs.Runs.{of_run, folder_images_same, images_same, run_images_same, kept_images_same, safe_same, own_lock_same, ends_run}
 use Rattle.bisync_cli.proofs.top.bisync_main.Goals as goal
 
 pub returns-in-Err-OutOfMemory-clause-images : goal.returns-in-Err-OutOfMemory-clause-images
@@ -198,3 +198,9 @@ returns-clause-mixed g c = of_run _ _ _ _ c.in-Ok-Run.ensures.read.ok c.in-Ok-Ru
 
 pub returns-clause-outcome : goal.returns-clause-outcome
 returns-clause-outcome g c = of_run _ _ _ _ c.in-Ok-Run.ensures.read.ok c.in-Ok-Run.field-0-is c.run-end.ensures.outcome
+
+pub returns-clause-resync_fell : goal.returns-clause-resync_fell
+returns-clause-resync_fell g c = of_run _ _ _ _ c.in-Ok-Run.ensures.read.ok c.in-Ok-Run.field-0-is c.run-end.ensures.resync_fell
+
+pub returns-in-Err-OutOfMemory-clause-own_lock : goal.returns-in-Err-OutOfMemory-clause-own_lock
+returns-in-Err-OutOfMemory-clause-own_lock g c = own_lock_same (task_in c.args.words.now) _ _ _ _

@@ -1,4 +1,6 @@
-use Rattle.std.proofs.Common.{Ok, Err, ℕ, refl, sym, ◌∙◌, inl, inr, subst}
+use Rattle.std.proofs.Common.{Ok, Err, ℕ, List, sum_by, ap, refl, sym, ◌∙◌, inl, inr, subst}
+use Rattle.bisync_tree.specs.declared.steps.Step.{Step}
+use Rattle.bisync_model.specs.Changes.{changes_of}
 use Rattle.bisync_device.specs.Faults.{Rose}
 use Rattle.bisync_tree.specs.declared.sides.Side.TheVariants.{One, Two}
 use Rattle.bisync_model.specs.Trees.{by_side}
@@ -131,7 +133,8 @@ pub returns-clause-counted : goal.returns-clause-counted
 returns-clause-counted g c =
     let i = c.loop-step.invariant in
     let n = c.count_changes-changes.ensures in
-    counted_now _ _ _ _ _ _ i.2 (none_left _ _ i.5 c.in-None.ensures.steps.0) _ _ n.one n.two
+    let same = c.deref.ensures.value in
+    counted_now _ _ _ _ _ _ i.2 (none_left _ _ i.5 c.in-None.ensures.steps.0) _ _ (n.one ∙ ap (λ (l : List Step). sum_by (changes_of One) l) same) (n.two ∙ ap (λ (l : List Step). sum_by (changes_of Two) l) same)
 
 pub returns-clause-part : goal.returns-clause-part
 returns-clause-part g c = part_now _ _ _ _ _ _ c.loop-step.invariant.2
