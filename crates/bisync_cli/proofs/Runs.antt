@@ -9,6 +9,7 @@ use Rattle.bisync_opts.specs.declared.options.Opts.{Opts}
 use Rattle.bisync_report.specs.declared.ends.End.{End}
 use Rattle.bisync_report.specs.declared.ends.End.TheVariants.{Done, Resynced, DryRun, InSync, Demo, Usage, WorkFault, NoFilters, BadRule, Locked, FiltersChanged, BadListing, NeedResync, ListingsDiffer, EmptyPrior, RemoteFault, BadPath, TooMany, CheckAccess, EmptyCurrent, TooManyDeletes, AllChanged, NameTooLong, ListingTooLong, OutOfSync, Moved, SinkFault, LockLeft, FoldersLeft, KeepFault, Checked, NotBuilt, OutOfMemory}
 use Rattle.bisync_run.specs.Counts.{Counts, Ends}
+use Rattle.bisync_run.specs.EndKinds.{is_before_lock}
 use Rattle.bisync_run.specs.FolderBases.{LeavesFolderBase}
 use Rattle.bisync_run.specs.LeftNames.{LeavesOwnLock}
 use Rattle.bisync_run.specs.OrdinaryRuns.{KeepsOrdinaryBaseOf, KeepsSafe, LeavesOrdinaryBaseOf}
@@ -66,10 +67,11 @@ safe_same (Ok NoTask) One Two Works limits small f start = tt
 safe_same (Err kind) One Two Works limits small f start = tt
 
 -- a run that came to nothing left the lock as it was
-pub own_lock_same : (read : Result Task UsageKind) (Works : Type 0) (told : Bool) (moment : ℤ) (lock : Held) → OfTask read (λ opts. Works → LeavesOwnLock opts.max_lock told moment OutOfMemory lock lock)
-own_lock_same (Ok (Run opts)) Works told moment lock = λ work. inr (inr (refl, (moment, (λ clock. refl), inl (inl refl))))
-own_lock_same (Ok NoTask) Works told moment lock = tt
-own_lock_same (Err kind) Works told moment lock = tt
+pub own_lock_same : (read : Result Task UsageKind) (Works : Type 0) (told : Bool) (moment : ℤ) (end : End) (lock : Held) → end ≡ OutOfMemory
+    → OfTask read (λ opts. Works → LeavesOwnLock opts.max_lock told moment end lock lock)
+own_lock_same (Ok (Run opts)) Works told moment end lock is = λ work. inr (inr (ap is_before_lock is, (moment, (λ clock. refl), inl (inl refl))))
+own_lock_same (Ok NoTask) Works told moment end lock is = tt
+own_lock_same (Err kind) Works told moment end lock is = tt
 
 -- a run that has its cause, and isn't one that isn't built, refuses no words
 is_run_end : (old new : Counts) (end : End) → Ends old new end → end ≢ NotBuilt → IsRunEnd end

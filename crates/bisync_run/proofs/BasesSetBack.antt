@@ -7,14 +7,15 @@ use Rattle.bisync_device.specs.WorkFolder.{WorkFolder, IsSettled, IsImage}
 use Rattle.bisync_work.specs.declared.bases.Pair.TheVariants.{Current, Old}
 use Rattle.bisync_work.specs.Base.{Base, HasBaseIn, IsBase, HasNoBase}
 use Rattle.bisync_work.specs.Locks.{ChangesLock}
-use Rattle.bisync_work.specs.Moves.{IsReady, Switches}
+use Rattle.bisync_device.proofs.WorkFolderLaws.{image-settled}
+use Rattle.bisync_work.specs.Moves.{SameListings, Switches}
 use Rattle.bisync_work.specs.Stamps.{IsNewStamp}
-use Rattle.bisync_work.proofs.BaseLaws.{base_is_one, same_in_pair}
+use Rattle.bisync_work.proofs.BaseLaws.{base_is_one, same_in_pair, same_keeps}
 use Rattle.bisync_opts.specs.declared.options.Opts.{Opts}
 use Rattle.bisync_run.specs.CarryingOut.{AreWithin}
 use Rattle.bisync_run.specs.Closing.{Closes}
 use Rattle.bisync_run.specs.FolderBases.{IsNextOf, TakesNext}
-use Rattle.bisync_run.specs.LeftNames.{LeavesBaseSetBack, StoresDigestLate}
+use Rattle.bisync_run.specs.LeftNames.{LeavesBaseSetBack, MayBeLeft, StoresDigestLate}
 use Rattle.bisync_run.specs.OrdinaryChanges.{IsPrepared, IsSetBack}
 use Rattle.bisync_run.specs.ResyncWriting.{next_base}
 use Rattle.bisync_run.specs.Starts.{IsStartOf}
@@ -112,3 +113,21 @@ module _ (limits : Limits) (compare : Compare) (f f2 g h : WorkFolder) (changes 
       (λ more. inr (⊎_elim (λ none. inl (none_closed none)) takes_closed more))
       other))
       (leaves before (base_past f f2 changes limits.listing (Some before) is))
+
+-- # What is left, or an image of it
+
+same_image : (g left : WorkFolder) → IsSettled g → IsImage g left → SameListings g left
+same_image g left settled image = let r = image-settled g left settled image in record { one = r.one; two = r.two; one_old = r.one_old; two_old = r.two_old }
+
+pub set_back_left : (limits : Limits) (compare : Compare) (f : WorkFolder) (start : Remotes) (g : WorkFolder) (now : Remotes) (left : WorkFolder)
+    → LeavesBaseSetBack limits compare f start g now → (IsSettled f → IsSettled g) → MayBeLeft f g left → LeavesBaseSetBack limits compare f start left now
+set_back_left limits compare f start g now left leaves settled (inl same) before is = subst (λ (h : WorkFolder). LeavesBaseSetBack limits compare f start h now) (sym same) leaves before is
+set_back_left limits compare f start g now left leaves settled (inr image) before is =
+    let same = same_image g left (settled image.0) image.1 in
+    let keeps = same_keeps limits.listing g left same in
+    ⊎_elim inl
+    (λ other. inr (⊎_elim
+    (λ old. inl (same_in_pair limits.listing g left same Old before old))
+    (λ more. inr (⊎_elim (λ none. inl (keeps.base None none)) (λ taken. inr (taken.0, taken.1, keeps.base (Some taken.0) taken.2)) more))
+    other))
+    (leaves before is)

@@ -1,5 +1,5 @@
 -- The numbers of changes of a good end are those that the sides counted, each where it tells.
-use Rattle.std.proofs.Common.{◌≡◌, ◌⊎◌, ◌+◌, ◌∙◌, ℕ, Bool, IsTrue, Result, Ok, Err, ap, refl, subst, sym, inl, inr, true}
+use Rattle.std.proofs.Common.{◌≡◌, ◌⊎◌, ◌+◌, ◌∙◌, ℕ, Bool, Result, Ok, Err, ap, subst, sym, inl, inr, true}
 use Rattle.std.specs.Prelude.{IfOk}
 use Rattle.bisync_tree.specs.Rows.{Rows}
 use Rattle.bisync_tree.specs.declared.entries.Compare.{Compare}

@@ -10,8 +10,7 @@ use Rattle.bisync_opts.specs.declared.options.CheckSync.TheVariants.{Always, Nev
 use Rattle.bisync_opts.specs.declared.options.Opts.{Opts}
 use Rattle.bisync_report.specs.Status.{falls_of}
 use Rattle.bisync_report.specs.declared.ends.End.{End}
-use Rattle.bisync_work.specs.declared.bases.Pair.{Pair}
-use Rattle.bisync_work.specs.declared.bases.Pair.TheVariants.{Current, Mixed, Old}
+use Rattle.bisync_work.specs.declared.bases.Pair.TheVariants.{Current}
 use Rattle.bisync_work.specs.Base.{Base, ArePair, HasBaseIn, IsBase, HasNoBase}
 use Rattle.bisync_work.specs.Locks.{ChangesLock}
 use Rattle.bisync_work.specs.Moves.{SameListings}

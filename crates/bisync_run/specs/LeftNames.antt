@@ -2,7 +2,7 @@
 use Rattle.std.specs.Prelude.{◌≡◌, ◌⊎◌, ℤ, Bool, true, Option, Some}
 use Rattle.bisync_tree.specs.declared.entries.Compare.{Compare}
 use Rattle.bisync_tree.specs.declared.options.Limits.{Limits}
-use Rattle.bisync_device.specs.WorkFolder.{Held, Absent, Kept, WorkFolder}
+use Rattle.bisync_device.specs.WorkFolder.{Held, Absent, Kept, WorkFolder, IsSettled, IsImage}
 use Rattle.bisync_work.specs.declared.bases.Pair.TheVariants.{Old}
 use Rattle.bisync_work.specs.Base.{Base, HasBaseIn, IsBase, HasNoBase}
 use Rattle.bisync_work.specs.Locks.{MakesLock}
@@ -13,6 +13,10 @@ use Rattle.bisync_run.specs.EndKinds.{is_before_lock}
 use Rattle.bisync_run.specs.Entering.{AtMoment}
 use Rattle.bisync_run.specs.FolderBases.{TakesNext}
 use Rattle.bisync_run.specs.Untouched.{Remotes, AreUntouched}
+
+-- what is left at return, or an image of it after a stop, where the folder was settled at entry
+abbrev pub MayBeLeft : WorkFolder → WorkFolder → WorkFolder → Type 0
+MayBeLeft f g left = (left ≡ g) ⊎ (IsSettled f × IsImage g left)
 
 -- # The names of the base
 

@@ -22,7 +22,7 @@ ghost use Rattle.bisync_run.specs.Entering.{AtMoment, HasSomeRules, IsEntryEnd, 
 ghost use Rattle.bisync_run.specs.FilterRules.{KnowsRules};
 ghost use Rattle.bisync_run.specs.FolderBases.{LeavesFolderBase, LeavesNextInPlace, Writes, compared};
 ghost use Rattle.bisync_run.specs.Grounds.{HasGrounds, IsTold};
-ghost use Rattle.bisync_run.specs.LeftNames.{LeavesBaseSetBack, LeavesOwnLock, StoresDigestLate};
+ghost use Rattle.bisync_run.specs.LeftNames.{LeavesBaseSetBack, LeavesOwnLock, MayBeLeft, StoresDigestLate};
 ghost use Rattle.bisync_run.specs.LockNew.{KeepsLockNew};
 ghost use Rattle.bisync_run.specs.Ordinary.{KeepsOrdinaryRest};
 ghost use Rattle.bisync_run.specs.OrdinaryEnds.{IsOrdinaryEnd};
@@ -78,7 +78,7 @@ pub fn run<A: Remote, B: Remote, W: Work, C: Clock, S: Sink>(
     ensures run_base { opts.now.resync ≡ None → IsTrue A.tells → IsTrue B.tells → IsTrue W.tells → LeavesOrdinaryBaseOf opts.now limits.now (W.state work.old).folder (by_side (A.state one.old) (B.state two.old)) (W.state work.new).folder (by_side (A.state one.new) (B.state two.new)) }
     ensures resilient_base { opts.now.resync ≡ None → IsTrue A.tells → IsTrue B.tells → IsTrue W.tells → (opts.now.resilient || opts.now.dry_run) ≡ true → KeepsOrdinaryBaseOf opts.now limits.now (W.state work.old).folder (by_side (A.state one.old) (B.state two.old)) (W.state work.new).folder (by_side (A.state one.new) (B.state two.new)) }
     ensures run_trees { opts.now.resync ≡ None → IsTrue A.tells → IsTrue B.tells → IsTrue W.tells → LeavesOrdinaryTreesOf opts.now limits.now (W.state work.old).folder (by_side (A.state one.old) (B.state two.old)) C.tells (C.moment clock.old) (by_side (A.state one.new) (B.state two.new)) }
-    ensures set_back { opts.now.resync ≡ None → IsTrue A.tells → IsTrue B.tells → IsTrue W.tells → LeavesBaseSetBack limits.now (compared opts.now (by_side (A.state one.old) (B.state two.old))) (W.state work.old).folder (by_side (A.state one.old) (B.state two.old)) (W.state work.new).folder (by_side (A.state one.new) (B.state two.new)) }
+    ensures set_back { opts.now.resync ≡ None → IsTrue A.tells → IsTrue B.tells → IsTrue W.tells → (left : WorkFolder) → MayBeLeft (W.state work.old).folder (W.state work.new).folder left → LeavesBaseSetBack limits.now (compared opts.now (by_side (A.state one.old) (B.state two.old))) (W.state work.old).folder (by_side (A.state one.old) (B.state two.old)) left (by_side (A.state one.new) (B.state two.new)) }
     ensures run_rest { opts.now.resync ≡ None → IsTrue W.tells → KeepsOrdinaryRest (lets_fall opts.now.resilient opts.now.dry_run result) (W.state work.old).folder (W.state work.new).folder }
     ensures only_run { opts.now.resync ≡ None → IsOrdinaryEnd opts.now (compare_in opts.now.compare (A.state one.old).window (B.state two.old).window) result }
     ensures run_images { opts.now.resync ≡ None → IsTrue A.tells → IsTrue B.tells → IsTrue W.tells → IsSettled (W.state work.old).folder → (image : WorkFolder) → IsImage (W.state work.new).folder image → LeavesOrdinaryBaseOf opts.now limits.now (W.state work.old).folder (by_side (A.state one.old) (B.state two.old)) image (by_side (A.state one.new) (B.state two.new)) }

@@ -203,4 +203,4 @@ pub returns-clause-resync_fell : goal.returns-clause-resync_fell
 returns-clause-resync_fell g c = of_run _ _ _ _ c.in-Ok-Run.ensures.read.ok c.in-Ok-Run.field-0-is c.run-end.ensures.resync_fell
 
 pub returns-in-Err-OutOfMemory-clause-own_lock : goal.returns-in-Err-OutOfMemory-clause-own_lock
-returns-in-Err-OutOfMemory-clause-own_lock g c = own_lock_same (task_in c.args.words.now) _ _ _ _
+returns-in-Err-OutOfMemory-clause-own_lock g c = own_lock_same (task_in c.args.words.now) _ _ _ _ _ c.told-in-Err-OutOfMemory.ensures.end

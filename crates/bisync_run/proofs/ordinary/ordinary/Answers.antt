@@ -6,7 +6,7 @@ use Rattle.bisync_run.specs.Counts.{counts}
 use Rattle.bisync_run.specs.LockNew.{KeepsLockNew}
 use Rattle.bisync_run.specs.Sides.{compare_in, sides_of}
 use Rattle.bisync_run.proofs.BeginningLaws.{begun_by, compared_begins, compared_begun, look_begins, start_begins, step_begins}
-use Rattle.bisync_run.proofs.BasesSetBack.{ordinary_set_back, untouched_set_back}
+use Rattle.bisync_run.proofs.BasesSetBack.{ordinary_set_back}
 use Rattle.bisync_run.proofs.CauseLaws.{fails}
 use Rattle.bisync_run.proofs.CountedRuns.{counted_since}
 use Rattle.bisync_run.proofs.DoneSteps.{looked_told}

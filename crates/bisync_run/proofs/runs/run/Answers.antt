@@ -9,6 +9,7 @@ use Rattle.bisync_run.specs.EndKinds.{is_good, is_unlocked, lets_fall, may_have_
 use Rattle.bisync_run.specs.Entering.{IsEntryEnd}
 use Rattle.bisync_run.specs.OrdinaryRuns.{HasOrdinaryNumbers, TellsOrdinaryRun}
 use Rattle.bisync_run.specs.ResyncRuns.{HasNumbers, TellsRun}
+use Rattle.bisync_run.proofs.BasesSetBack.{set_back_left}
 use Rattle.bisync_run.proofs.BeginningLaws.{begins_told}
 use Rattle.bisync_run.proofs.BuiltEnds.{told_built}
 use Rattle.bisync_run.proofs.ClosedEnds.{tells_last}
@@ -353,3 +354,10 @@ returns-clause-counted2 g c tells first second is =
     let start = by_side (g.A.Remote.state c.args.one.now) (g.B.Remote.state c.args.two.now) in
     let now = by_side (g.A.Remote.state c.run_to_close-end.new.one) (g.B.Remote.state c.run_to_close-end.new.two) in
     counted_told (by_side g.A.Remote.tells g.B.Remote.tells) start now c.run_to_close-end.result c.tell_end.result c.tell_end.ensures.end c.run_to_close-end.ensures.counted first second is Two tells
+
+pub returns-clause-set_back : goal.returns-clause-set_back
+returns-clause-set_back g c none one two work left is =
+    let start = by_side (g.A.Remote.state c.args.one.now) (g.B.Remote.state c.args.two.now) in
+    let now = by_side (g.A.Remote.state c.run_to_close-end.new.one) (g.B.Remote.state c.run_to_close-end.new.two) in
+    set_back_left c.args.limits.now _ (g.W.Work.state c.args.work.now).folder start (g.W.Work.state c.run_to_close-end.new.work).folder now left
+    (c.run_to_close-end.ensures.set_back none one two work) (c.run_to_close-end.ensures.settled work) is
