@@ -59,7 +59,7 @@ module _ (limits : Limits) (compare : Compare) (f : WorkFolder) (start mid now :
 pub ordinary_set_back : (opts : Opts) (limits : Limits) (compare : Compare) (digest : Option (List ℕ)) (f f2 : WorkFolder) (same : f2 ≡ f) (started : Started) (start : IsStartOf opts limits f digest started)
     (made : Look) (fields : made.compare ≡ compare) → limits.listing < 2 ^ 64 → AreWithin limits.listing (prepared_of started.stamp made) → (before mid now : Remotes) (g : WorkFolder) → AreUntouched before mid
     → ((limit : ℕ) (base : Base) → IsPrepared limit f2 started.pair base (prepared_of started.stamp made)
-        → AreUntouched mid now ⊎ (HasBaseIn limit g Old base ⊎ IsBase limit g (Some (next_base (prepared_of started.stamp made)))))
+    → AreUntouched mid now ⊎ (HasBaseIn limit g Old base ⊎ IsBase limit g (Some (next_base (prepared_of started.stamp made)))))
     → LeavesBaseSetBack limits compare f before g now
 ordinary_set_back opts limits compare digest f f2 same started start made fields small fits before mid now g looked left =
     set_back_held limits compare f before mid now g small looked (prepared_of started.stamp made) (next_of limits compare f (prepared_of started.stamp made) fields start.new) start.base

@@ -63,7 +63,6 @@ pub returns-in-None-clause-folder_next : goal.returns-in-None-clause-folder_next
 returns-in-None-clause-folder_next g c work writes =
     map_ok c.ordinary.result (λ out. (out.0, λ none. out.1)) (c.ordinary.ensures.folder_next work writes.0 (writes.1 c.in-None.is))
 
-
 pub returns-in-None-clause-digest_late : goal.returns-in-None-clause-digest_late
 returns-in-None-clause-digest_late g c work = inl (ap (λ (w : WorkFolder). w.filters_md5) (c.ordinary.ensures.rest work))
 

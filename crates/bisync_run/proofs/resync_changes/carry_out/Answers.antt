@@ -82,7 +82,6 @@ returns-clause-falls_as g c work never =
 
 -- # The lock
 
-
 pub returns-in-Err-do_steps-clause-own_lock : goal.returns-in-Err-do_steps-clause-own_lock
 returns-in-Err-do_steps-clause-own_lock g c work =
     own_around _ _ _ _ _ _ _ (ap (λ (w : WorkFolder). w.lock) (c.write_resync.ensures.rest work)) (c.do_steps.ensures.own_lock work) refl

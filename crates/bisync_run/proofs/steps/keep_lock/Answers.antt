@@ -26,8 +26,6 @@ returns-clause-kept g c =
     (tested_due _ _ _ _ lock c.ranges.written_at now cut (long_time _ _ c.in-Some.is c.requires) c.saturating_sub.ensures c.if-saturating_sub-max_lock.false)
     (to_z-of_z w64 _ now) (λ t. c.in_ok-renew.ensures.renewed t ∙ written_then _ _ lock now (g.W.Work.state c.args.work.now).folder)
 
-
-
 pub returns-in_err-renew-clause-own_lock : goal.returns-in_err-renew-clause-own_lock
 returns-in_err-renew-clause-own_lock g c = λ t.
     let lock : FitsSigned w64 c.in-Some.max_lock = search rules in
