@@ -3,7 +3,7 @@ use Rattle.std.proofs.Common.{◌≡◌, ◌∙◌, ◌<◌, ◌^◌, ℤ, Bool,
 use Rattle.std.specs.Prelude.{◌≢◌, ◌||◌}
 use Rattle.bisync_tree.specs.declared.options.Limits.{Limits}
 use Rattle.bisync_tree.specs.declared.options.Prefer.{Prefer}
-use Rattle.bisync_device.specs.WorkFolder.{Held, WorkFolder, IsSettled, IsImage}
+use Rattle.bisync_device.specs.WorkFolder.{WorkFolder, IsSettled, IsImage}
 use Rattle.bisync_opts.specs.declared.faults.UsageKind.{UsageKind}
 use Rattle.bisync_opts.specs.declared.options.Opts.{Opts}
 use Rattle.bisync_report.specs.declared.ends.End.{End}
@@ -67,11 +67,11 @@ safe_same (Ok NoTask) One Two Works limits small f start = tt
 safe_same (Err kind) One Two Works limits small f start = tt
 
 -- a run that came to nothing left the lock as it was
-pub own_lock_same : (read : Result Task UsageKind) (Works : Type 0) (told : Bool) (moment : ℤ) (end : End) (lock : Held) → end ≡ OutOfMemory
-    → OfTask read (λ opts. Works → LeavesOwnLock opts.max_lock told moment end lock lock)
-own_lock_same (Ok (Run opts)) Works told moment end lock is = λ work. inr (inr (ap is_before_lock is, (moment, (λ clock. refl), inl (inl refl))))
-own_lock_same (Ok NoTask) Works told moment end lock is = tt
-own_lock_same (Err kind) Works told moment end lock is = tt
+pub own_lock_same : (read : Result Task UsageKind) (Works : Type 0) (told : Bool) (moment : ℤ) (end : End) (f : WorkFolder) (IsKept : Type 0) → IsKept → end ≡ OutOfMemory
+    → OfTask read (λ opts. Works → LeavesOwnLock opts told moment end f f IsKept)
+own_lock_same (Ok (Run opts)) Works told moment end f IsKept kept is = λ work. inr (inr (ap is_before_lock is, record { rest = refl }, kept, inl refl))
+own_lock_same (Ok NoTask) Works told moment end f IsKept kept is = tt
+own_lock_same (Err kind) Works told moment end f IsKept kept is = tt
 
 -- a run that has its cause, and isn't one that isn't built, refuses no words
 is_run_end : (old new : Counts) (end : End) → Ends old new end → end ≢ NotBuilt → IsRunEnd end

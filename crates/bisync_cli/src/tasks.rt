@@ -110,3 +110,6 @@ fn keeps_or_tracks(opts: &Opts) -> bool
 {
     opts.backup1.is_some() || opts.backup2.is_some() || opts.track_renames
 }
+
+/// Lets the options go, in a call of its own, so that the proof of the top call has no cases on them.
+pub fn let_go(_opts: Opts) {}

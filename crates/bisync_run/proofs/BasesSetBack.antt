@@ -3,7 +3,7 @@ use Rattle.std.proofs.Common.{◌≡◌, ◌⊎◌, ◌∙◌, ◌<◌, ◌^◌,
 use Rattle.std.specs.Option.{unwrap_or}
 use Rattle.bisync_tree.specs.declared.entries.Compare.{Compare}
 use Rattle.bisync_tree.specs.declared.options.Limits.{Limits}
-use Rattle.bisync_device.specs.WorkFolder.{WorkFolder, IsSettled, IsImage}
+use Rattle.bisync_device.specs.WorkFolder.{Held, WorkFolder, IsSettled, IsImage}
 use Rattle.bisync_work.specs.declared.bases.Pair.TheVariants.{Current, Old}
 use Rattle.bisync_work.specs.Base.{Base, HasBaseIn, IsBase, HasNoBase}
 use Rattle.bisync_work.specs.Locks.{ChangesLock}
@@ -14,10 +14,11 @@ use Rattle.bisync_work.proofs.BaseLaws.{base_is_one, same_in_pair, same_keeps}
 use Rattle.bisync_opts.specs.declared.options.Opts.{Opts}
 use Rattle.bisync_run.specs.CarryingOut.{AreWithin}
 use Rattle.bisync_run.specs.Closing.{Closes}
-use Rattle.bisync_run.specs.FolderBases.{IsNextOf, TakesNext}
-use Rattle.bisync_run.specs.LeftNames.{LeavesBaseSetBack, MayBeLeft, StoresDigestLate}
+use Rattle.bisync_run.specs.FolderBases.{IsNextOf, TakesNext, compared}
+use Rattle.bisync_run.specs.LeftNames.{LeavesBaseSetBack, MayBeLeft, StoresDigest, StoresDigestOf}
 use Rattle.bisync_run.specs.OrdinaryChanges.{IsPrepared, IsSetBack}
-use Rattle.bisync_run.specs.ResyncWriting.{next_base}
+use Rattle.bisync_run.specs.ResyncRuns.{Matter}
+use Rattle.bisync_run.specs.ResyncWriting.{next_base, stored}
 use Rattle.bisync_run.specs.Starts.{IsStartOf}
 use Rattle.bisync_run.specs.Untouched.{Remotes, AreUntouched}
 use Rattle.bisync_run.specs.declared.looks.Look.{Look}
@@ -40,9 +41,6 @@ old_or_next limit f g h before prepared small back lock switches =
     (switches.older limit (next_base prepared) small (ready_past f g lock limit (next_base prepared) back.ready) before (old_past limit f g before prepared back lock))
 
 -- # The ordinary run
-
-pub untouched_set_back : (limits : Limits) (compare : Compare) (f : WorkFolder) (start : Remotes) (g : WorkFolder) (now : Remotes) → AreUntouched start now → LeavesBaseSetBack limits compare f start g now
-untouched_set_back limits compare f start g now same before is = inl same
 
 module _ (limits : Limits) (compare : Compare) (f : WorkFolder) (start mid now : Remotes) (g : WorkFolder) where
   -- after it was carried out, from the base that it started from
@@ -67,21 +65,20 @@ ordinary_set_back opts limits compare digest f f2 same started start made fields
 
 -- # The digest of a resync
 
-pub digest_past : (limit : ℕ) (next : Base) (f g h : WorkFolder) → (g.filters_md5 ≡ f.filters_md5) ⊎ ((most : ℕ) → HasNoBase most g) → ChangesLock g h
-    → (h.filters_md5 ≡ f.filters_md5) ⊎ (HasNoBase limit h ⊎ IsBase limit h (Some next))
-digest_past limit next f g h late lock =
-    ⊎_elim (λ same. inl (ap (λ (w : WorkFolder). w.filters_md5) lock.rest ∙ same)) (λ none. inr (inl (no_base_past g h lock limit (none limit)))) late
+pub digest_past : (limit : ℕ) (next : Base) (stays : Held) (f g h : WorkFolder) (base : Option Base) → (IsBase limit g base × (g.filters_md5 ≡ f.filters_md5)) ⊎ HasNoBase limit g → ChangesLock g h
+    → (IsBase limit h base × (h.filters_md5 ≡ f.filters_md5)) ⊎ (HasNoBase limit h ⊎ (IsBase limit h (Some next) × (h.filters_md5 ≡ stays)))
+digest_past limit next stays f g h base late lock =
+    ⊎_elim (λ same. inl (base_past g h lock limit base same.0, ap (λ (w : WorkFolder). w.filters_md5) lock.rest ∙ same.1)) (λ none. inr (inl (no_base_past g h lock limit none))) late
 
-pub late_same : (limits : Limits) (compare : Compare) (f g : WorkFolder) → g ≡ f → StoresDigestLate limits compare f g
-late_same limits compare f g same = inl (ap (λ (w : WorkFolder). w.filters_md5) same)
-
-pub late_held : (limits : Limits) (compare : Compare) (f f2 : WorkFolder) → f2 ≡ f → (prepared : Prepared) → prepared.compare ≡ compare → IsNewStamp limits.listing f prepared.stamp → (g : WorkFolder)
-    → (g.filters_md5 ≡ f2.filters_md5) ⊎ (HasNoBase limits.listing g ⊎ IsBase limits.listing g (Some (next_base prepared))) → StoresDigestLate limits compare f g
-late_held limits compare f f2 same prepared fields new g late =
+pub late_held : (limits : Limits) (compare : Compare) (digest : Option (List ℕ)) (f f2 : WorkFolder) → f2 ≡ f → (prepared : Prepared) → prepared.compare ≡ compare → IsNewStamp limits.listing f prepared.stamp → (g : WorkFolder)
+    → ((base : Option Base) → IsBase limits.listing f2 base → (IsBase limits.listing g base × (g.filters_md5 ≡ f2.filters_md5))
+    ⊎ (HasNoBase limits.listing g ⊎ (IsBase limits.listing g (Some (next_base prepared)) × (g.filters_md5 ≡ stored digest f2.filters_md5))))
+    → StoresDigest limits compare digest f g
+late_held limits compare digest f f2 same prepared fields new g late base is =
     ⊎_elim
-    (λ stays. inl (stays ∙ ap (λ (w : WorkFolder). w.filters_md5) same))
-    (λ other. inr (⊎_elim inl (λ taken. inr (next_base prepared, next_of limits compare f prepared fields new, taken)) other))
-    late
+    (λ stays. inl (stays.0, stays.1 ∙ ap (λ (w : WorkFolder). w.filters_md5) same))
+    (λ other. inr (⊎_elim inl (λ taken. inr ((next_base prepared, next_of limits compare f prepared fields new, taken.0), taken.1 ∙ ap (λ (w : WorkFolder). stored digest w.filters_md5) same)) other))
+    (late base (subst (λ (w : WorkFolder). IsBase limits.listing w base) (sym same) is))
 
 -- # The close, said of the folder without the lock
 
@@ -97,12 +94,27 @@ module _ (limits : Limits) (compare : Compare) (f f2 g h : WorkFolder) (changes 
   none_closed : HasNoBase limits.listing g → HasNoBase limits.listing h
   none_closed none = ⊎_elim (λ same. same) (λ same. same) (closes.base limits.listing None none)
 
-  pub late_closed : StoresDigestLate limits compare f2 g → StoresDigestLate limits compare f h
-  late_closed late =
+  digest_closed : h.filters_md5 ≡ g.filters_md5
+  digest_closed = ap (λ (w : WorkFolder). w.filters_md5) closes.rest
+
+  pub late_closed : (opts : Opts) (start : Remotes) → compared opts start ≡ compare → (m : Matter opts f start) → StoresDigest limits compare m.digest f2 g → StoresDigestOf opts limits f start h
+  late_closed opts start fields m late base is =
       ⊎_elim
-      (λ same. inl (ap (λ (w : WorkFolder). w.filters_md5) closes.rest ∙ same ∙ ap (λ (w : WorkFolder). w.filters_md5) changes.rest))
-      (λ other. inr (⊎_elim (λ none. inl (none_closed none)) takes_closed other))
-      late
+      (λ same. ⊎_elim
+      (λ stays. inl (stays, digest_closed ∙ same.1 ∙ ap (λ (w : WorkFolder). w.filters_md5) changes.rest))
+      (λ none. inr (inl none))
+      (closes.base limits.listing base same.0))
+      (λ other. inr (⊎_elim
+      (λ none. inl (none_closed none))
+      (λ taken. ⊎_elim
+      inl
+      (λ next. inr (
+        subst (λ (c : Compare). TakesNext limits c f h) (sym fields) next,
+        (m, digest_closed ∙ taken.1 ∙ ap (λ (w : WorkFolder). stored m.digest w.filters_md5) changes.rest),
+      ))
+      (takes_closed taken.0))
+      other))
+      (late base (base_past f f2 changes limits.listing base is))
 
   pub old_closed : (start now : Remotes) → LeavesBaseSetBack limits compare f2 start g now → LeavesBaseSetBack limits compare f start h now
   old_closed start now leaves before is =

@@ -1,18 +1,14 @@
 -- The numbers of changes of a good end are those that the sides counted, each where it tells.
-use Rattle.std.proofs.Common.{◌≡◌, ◌⊎◌, ◌+◌, ◌∙◌, ℕ, Bool, Result, Ok, Err, ap, subst, sym, inl, inr, true}
-use Rattle.std.specs.Prelude.{IfOk}
-use Rattle.bisync_tree.specs.Rows.{Rows}
-use Rattle.bisync_tree.specs.declared.entries.Compare.{Compare}
+use Rattle.std.proofs.Common.{◌≡◌, ◌⊎◌, ◌+◌, ◌∙◌, ℕ, Bool, ap, subst, sym, inl, inr, true}
 use Rattle.bisync_tree.specs.declared.sides.Side.{Side}
 use Rattle.bisync_tree.specs.declared.sides.Side.TheVariants.{One, Two}
 use Rattle.bisync_model.specs.Trees.{by_side}
 use Rattle.bisync_device.specs.Remote.{RemoteState, KeepsTree}
 use Rattle.bisync_report.specs.declared.ends.End.{End}
-use Rattle.bisync_report.specs.declared.ends.End.TheVariants.{Done, Resynced, InSync}
+use Rattle.bisync_report.specs.declared.ends.End.TheVariants.{Done, Resynced}
 use Rattle.bisync_run.specs.Closing.{EndsWith}
 use Rattle.bisync_run.specs.CountedChanges.{HasCounted, CountsChanges}
 use Rattle.bisync_run.specs.EndKinds.{is_good}
-use Rattle.bisync_run.specs.Starting.{ComparesBase}
 use Rattle.bisync_run.specs.Untouched.{Remotes}
 use Rattle.bisync_run.proofs.ToldEnds.{good_told}
 
@@ -21,13 +17,6 @@ pub counted_since : (tells1 tells2 : Bool) (a b a2 b2 : RemoteState) → KeepsTr
     → (now : Remotes) (one two : ℕ) → HasCounted (by_side tells1 tells2) (by_side a2 b2) now one two → HasCounted (by_side tells1 tells2) (by_side a b) now one two
 counted_since tells1 tells2 a b a2 b2 first second now one two x One t = x One t ∙ ap (λ n. n + one) (first t).changes
 counted_since tells1 tells2 a b a2 b2 first second now one two x Two t = x Two t ∙ ap (λ n. n + two) (second t).changes
-
--- a run that only compares its base tells no numbers
-pub compared_counts : (compare : Compare) (one two : Rows) (result : Result End End) (tells : Side → Bool) (start now : Remotes)
-    → ComparesBase compare one two result → IfOk result (CountsChanges tells start now)
-compared_counts compare one two (Ok InSync) tells start now x = tt
-compared_counts compare one two (Ok end) tells start now x = absurd x
-compared_counts compare one two (Err end) tells start now x = tt
 
 -- the last line leaves a good end
 module _ (tells : Side → Bool) (start now : Remotes) (end last : End) (ends : EndsWith end last) (counts : is_good end ≡ true → CountsChanges tells start now end) where

@@ -2,6 +2,7 @@
 use Rattle.std.proofs.Common.{◌≡◌, ◌≤◌, ◌∙◌, ℕ, List, Option, Bool, true, false, refl, sym, ap, subst, inl, inr, Result, Ok, Err}
 use Rattle.std.specs.Prelude.{◌⊎◌, IfErr, IfOk}
 use Rattle.bisync_device.specs.Faults.{Rose}
+use Rattle.bisync_device.specs.Remote.{KeepsTree, RemoteState}
 use Rattle.bisync_device.specs.WorkFolder.{Held, Absent, Kept, Loose, WorkFolder}
 use Rattle.bisync_device.specs.declared.works.WorkName.TheVariants as name
 use Rattle.bisync_work.specs.declared.bases.Pair.{Pair}
@@ -14,7 +15,7 @@ use Rattle.bisync_work.proofs.RenameLaws.{over, renamed_over}
 use Rattle.bisync_report.specs.declared.ends.End.{End}
 use Rattle.bisync_run.specs.Closing.{ClosesWith, Unlocks}
 use Rattle.bisync_run.specs.EndKinds.{falls_at_close, is_after_good, is_good}
-use Rattle.bisync_run.specs.LeftNames.{FallsAs}
+use Rattle.bisync_run.specs.LeftNames.{FallsAs, StaysOrFell}
 use Rattle.bisync_run.specs.ResyncWriting.{AreRewritten}
 use Rattle.bisync_run.proofs.CloseLaws.{fell_before, fell_past}
 use Rattle.bisync_run.proofs.ClosedEnds.{changes_closed}
@@ -93,22 +94,22 @@ fallen_falls_as f g is = record {
 }
 
 -- of a resync that failed and was closed, the listings fell or nothing but the lock changed
-pub resync_fell : (resilient dry_run : Bool) (ended : Result End End) (end : End) (f f2 g h : WorkFolder) → IfOk ended (λ e. is_good e ≡ true) → ClosesWith ended end → is_after_good end ≡ false
-    → ChangesLock f f2 → IfErr ended (λ e. (g ≡ f2) ⊎ IsFallen f2 g)
-    → (falls_at_close resilient dry_run ended ≡ false → Unlocks g h) → (falls_at_close resilient dry_run ended ≡ true → IsFallen g h) → ChangesLock f h ⊎ IsFallen f h
-resync_fell resilient dry_run (Ok good) end f f2 g h well (inl same) bad lock left kept fell = false_true (sym bad ∙ ap is_after_good same ∙ good_is_after_good good well)
-resync_fell resilient dry_run (Ok good) end f f2 g h well (inr stays) bad lock left kept fell = false_true (sym bad ∙ ap is_after_good stays)
-resync_fell resilient dry_run (Err e) end f f2 g h well same bad lock left kept fell = by_fall (falls_at_close resilient dry_run (Err e)) refl
+pub resync_fell : (IsKept : Type 0) (resilient dry_run : Bool) (ended : Result End End) (end : End) (f f2 g h : WorkFolder) → IfOk ended (λ e. is_good e ≡ true) → ClosesWith ended end → is_after_good end ≡ false
+    → ChangesLock f f2 → IfErr ended (λ e. ((g ≡ f2) × IsKept) ⊎ IsFallen f2 g)
+    → (falls_at_close resilient dry_run ended ≡ false → Unlocks g h) → (falls_at_close resilient dry_run ended ≡ true → IsFallen g h) → StaysOrFell f h IsKept
+resync_fell IsKept resilient dry_run (Ok good) end f f2 g h well (inl same) bad lock left kept fell = false_true (sym bad ∙ ap is_after_good same ∙ good_is_after_good good well)
+resync_fell IsKept resilient dry_run (Ok good) end f f2 g h well (inr stays) bad lock left kept fell = false_true (sym bad ∙ ap is_after_good stays)
+resync_fell IsKept resilient dry_run (Err e) end f f2 g h well same bad lock left kept fell = by_fall (falls_at_close resilient dry_run (Err e)) refl
   where
-    falls_so : (g ≡ f2) ⊎ IsFallen f2 g → FallsAs f2 g
-    falls_so (inl stays) = falls_as_same f2 g stays
+    falls_so : ((g ≡ f2) × IsKept) ⊎ IsFallen f2 g → FallsAs f2 g
+    falls_so (inl stays) = falls_as_same f2 g stays.0
     falls_so (inr fallen) = fallen_falls_as f2 g fallen
 
-    unlocked : (g ≡ f2) ⊎ IsFallen f2 g → Unlocks g h → ChangesLock f h ⊎ IsFallen f h
-    unlocked (inl stays) only = inl (changes_closed f f2 g h lock stays only)
+    unlocked : ((g ≡ f2) × IsKept) ⊎ IsFallen f2 g → Unlocks g h → StaysOrFell f h IsKept
+    unlocked (inl stays) only = inl (changes_closed f f2 g h lock stays.0 only, stays.1)
     unlocked (inr fallen) only = inr (fell_before f f2 f2 h lock (falls_as_same f2 f2 refl) (fell_past f2 g h fallen only))
 
-    by_fall : (b : Bool) → falls_at_close resilient dry_run (Err e) ≡ b → ChangesLock f h ⊎ IsFallen f h
+    by_fall : (b : Bool) → falls_at_close resilient dry_run (Err e) ≡ b → StaysOrFell f h IsKept
     by_fall true falls = inr (fell_before f f2 g h lock (falls_so left) (fell falls))
     by_fall false stays = unlocked left (kept stays)
 
@@ -126,11 +127,11 @@ fell_held f f2 g w w2 w3 same steady fell never =
 pub never_rose : {P : Type 0} (a b c : ℕ) → a ≤ b → Rose b c → (Rose a c → ⊥) → P
 never_rose a b c later rose never = absurd (never (rose_since a b c rose later))
 
-pub any_err : {T E P : Type 0} (r : Result T E) → P → IfErr r (λ e. P)
-any_err (Ok x) p = tt
-any_err (Err e) p = p
-
 -- what holds of an end that isn't good holds where listings fall
 pub where_it_falls : {P : Type 0} (resilient dry_run : Bool) (ended : Result End End) → falls_at_close resilient dry_run ended ≡ true → IfErr ended (λ end. P) → P
 where_it_falls resilient dry_run (Ok end) falls p = false_true falls
 where_it_falls resilient dry_run (Err end) falls p = p
+
+-- a side that nothing was done to
+pub keeps_tree_same : (tells : Bool) (a : RemoteState) → KeepsTree tells a a
+keeps_tree_same tells a t = record { tree = refl; changes = refl; folders = refl }

@@ -1,14 +1,17 @@
 -- The lock of a run, from one of its parts to the next.
-use Rattle.std.proofs.Common.{◌≡◌, ◌∙◌, ℤ, Bool, true, IsTrue, Option, Some, FitsSigned, to_z, of_z, refl, sym, ap, inl, inr}
+use Rattle.std.proofs.Common.{◌≡◌, ◌∙◌, ℕ, ℤ, Bool, true, IsTrue, List, Option, Some, FitsSigned, to_z, of_z, refl, sym, ap, subst, inl, inr}
 use Rattle.std.specs.Prelude.{◌⊎◌}
 use Rattle.std.proofs.lemmas.Int.{to_z-of_z}
 use Rattle.std.specs.Int.{w64}
+use Rattle.bisync_filter.specs.declared.rule_lists.Rule.{Rule}
 use Rattle.bisync_device.specs.WorkFolder.{Held, Absent, Kept, WorkFolder}
+use Rattle.bisync_opts.specs.declared.options.Opts.{Opts}
 use Rattle.bisync_work.specs.Locks.{MakesLock, ReplacesLock}
 use Rattle.bisync_work.specs.LockTexts.{expiry_of, lock_text}
 use Rattle.bisync_report.specs.declared.ends.End.{End}
 use Rattle.bisync_run.specs.EndKinds.{is_before_lock}
-use Rattle.bisync_run.specs.Entering.{AtMoment}
+use Rattle.bisync_run.specs.Entering.{AtMoment, HasSomeRules}
+use Rattle.bisync_run.specs.FilterRules.{AreRulesOf}
 use Rattle.bisync_run.specs.LeftNames.{IsOwnLock, KeepsOwnLock, LeavesOwnLock}
 
 -- the text as the program makes it
@@ -37,24 +40,29 @@ module _ (max_lock : Option ℤ) (told : Bool) (moment : ℤ) where
   own_next next f g h same first (inl again) = own_around f f g h refl first again
   own_next next f g h same first (inr own) = inr (later next h same own)
 
-  -- # The whole run
+-- # The whole run
 
+-- rules that were read after the folder was attached
+pub some_rules : (name : Option (List ℕ)) (f f2 : WorkFolder) → f2 ≡ f → (rules : List Rule) (digest : Option (List ℕ)) → AreRulesOf name f2.filters rules digest → HasSomeRules name f
+some_rules name f f2 same rules digest are = (rules, digest, subst (λ (w : WorkFolder). AreRulesOf name w.filters rules digest) same are)
+
+pub made_since : (max_lock : Option ℤ) (told : Bool) (moment now : ℤ) (f f2 g : WorkFolder) → f2 ≡ f → (IsTrue told → now ≡ moment) → MakesLock (lock_text (expiry_of now max_lock)) f2.lock g.lock
+    → AtMoment told moment (λ now. MakesLock (lock_text (expiry_of now max_lock)) f.lock g.lock)
+made_since max_lock told moment now f f2 g same clock makes = (now, clock, subst (λ (w : WorkFolder). MakesLock (lock_text (expiry_of now max_lock)) w.lock g.lock) same makes)
+
+module _ (opts : Opts) (told : Bool) (moment : ℤ) (IsKept : Type 0) where
   -- of a run that was closed
-  closed : (end : End) (f g h : Held) → IsOwnLock max_lock told moment g → (h ≡ g) ⊎ (h ≡ Absent) → LeavesOwnLock max_lock told moment end f h
-  closed end f g h own (inl same) = inr (inl (own.0, own.1, same ∙ own.2))
-  closed end f g h own (inr gone) = inl gone
+  closed : (end : End) (f g h : WorkFolder) → HasSomeRules opts.filters f → IsOwnLock opts.max_lock told moment g.lock → (h.lock ≡ g.lock) ⊎ (h.lock ≡ Absent) → LeavesOwnLock opts told moment end f h IsKept
+  closed end f g h rules own (inl same) = inr (inl (rules, (own.0, own.1, same ∙ own.2)))
+  closed end f g h rules own (inr gone) = inl gone
 
-  pub own_closed : (next : ℤ) (end : End) (f f2 g h : Held) → (IsTrue told → next ≡ moment)
-      → IsOwnLock max_lock told moment f2 → KeepsOwnLock max_lock told next f2 g → (h ≡ g) ⊎ (h ≡ Absent) → LeavesOwnLock max_lock told moment end f h
-  own_closed next end f f2 g h same own (inl stays) closes = closed end f g h (own.0, own.1, stays ∙ own.2) closes
-  own_closed next end f f2 g h same own (inr again) closes = closed end f g h (later next g same again) closes
-
-  -- what stayed was taken by nobody
-  pub made_same : (f g : WorkFolder) → g ≡ f → AtMoment told moment (λ now. MakesLock (lock_text (expiry_of now max_lock)) f.lock g.lock)
-  made_same f g same = (moment, (λ clock. refl), inl (inl (ap (λ (w : WorkFolder). w.lock) same)))
+  pub own_closed : (next : ℤ) (end : End) (f f2 g h : WorkFolder) → HasSomeRules opts.filters f → (IsTrue told → next ≡ moment)
+      → IsOwnLock opts.max_lock told moment f2.lock → KeepsOwnLock opts.max_lock told next f2.lock g.lock → (h.lock ≡ g.lock) ⊎ (h.lock ≡ Absent) → LeavesOwnLock opts told moment end f h IsKept
+  own_closed next end f f2 g h rules same own (inl stays) closes = closed end f g h rules (own.0, own.1, stays ∙ own.2) closes
+  own_closed next end f f2 g h rules same own (inr again) closes = closed end f g h rules (later opts.max_lock told moment next g.lock same again) closes
 
   -- a lock is left only where it isn't the run's own
-  pub own_told : (end last : End) (f g : Held) → (is_before_lock end ≡ true → is_before_lock last ≡ true) → LeavesOwnLock max_lock told moment end f g → LeavesOwnLock max_lock told moment last f g
+  pub own_told : (end last : End) (f g : WorkFolder) → (is_before_lock end ≡ true → is_before_lock last ≡ true) → LeavesOwnLock opts told moment end f g IsKept → LeavesOwnLock opts told moment last f g IsKept
   own_told end last f g before (inl gone) = inl gone
   own_told end last f g before (inr (inl own)) = inr (inl own)
-  own_told end last f g before (inr (inr makes)) = inr (inr (before makes.0, makes.1))
+  own_told end last f g before (inr (inr left)) = inr (inr (before left.0, left.1, left.2, left.3))

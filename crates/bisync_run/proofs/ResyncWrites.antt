@@ -1,8 +1,8 @@
 -- What each part of a resync's writing leaves of the base.
-use Rattle.std.proofs.Common.{◌≡◌, ◌⊎◌, ℕ, None, sym, ap, subst, inl, inr, ⊎_elim}
+use Rattle.std.proofs.Common.{◌≡◌, ◌⊎◌, ◌∙◌, ℕ, Option, None, sym, ap, subst, inl, inr, ⊎_elim}
 use Rattle.bisync_device.specs.WorkFolder.{WorkFolder, IsSynced}
 use Rattle.bisync_device.specs.declared.works.WorkName.TheVariants.{FiltersMd5}
-use Rattle.bisync_work.specs.Base.{HasNoBase}
+use Rattle.bisync_work.specs.Base.{Base, IsBase, HasNoBase}
 use Rattle.bisync_work.specs.KeptTexts.{ChangesOnly}
 use Rattle.bisync_work.specs.Moves.{Falls, SameListings}
 use Rattle.bisync_work.specs.NewListings.{but_new}
@@ -54,3 +54,13 @@ module _ (f g : WorkFolder) where
 
   pub digest_loses : ChangesOnly FiltersMd5 f g → Loses f g
   digest_loses o = same_loses f g (digest_same o) (ap (λ (x : WorkFolder). x.filters) o.rest)
+
+-- # The base and the digest beside it
+
+pub new_keeps_digest : (f g : WorkFolder) → but_new g ≡ but_new f → (limit : ℕ) (base : Option Base) → IsBase limit f base → IsBase limit g base × (g.filters_md5 ≡ f.filters_md5)
+new_keeps_digest f g e limit base is = ((same_keeps limit f g (new_same f g e)).base base is, ap (λ (x : WorkFolder). x.filters_md5) e)
+
+pub fall_keeps_digest : (f g h : WorkFolder) → but_new g ≡ but_new f → Falls g h → (limit : ℕ) (base : Option Base) → IsBase limit f base → (IsBase limit h base × (h.filters_md5 ≡ f.filters_md5)) ⊎ HasNoBase limit h
+fall_keeps_digest f g h e falls limit base is =
+    let before = new_keeps_digest f g e limit base is in
+    ⊎_elim (λ same. inl (same, ap (λ (x : WorkFolder). x.filters_md5) falls.rest ∙ before.1)) inr (falls.base limit base before.0)

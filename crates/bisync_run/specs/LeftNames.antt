@@ -1,17 +1,21 @@
 -- What a run leaves of some names of its work folder, whatever call failed.
-use Rattle.std.specs.Prelude.{◌≡◌, ◌⊎◌, ℤ, Bool, true, Option, Some}
+use Rattle.std.specs.Prelude.{◌≡◌, ◌⊎◌, ℕ, ℤ, List, Bool, true, false, Option, Some}
 use Rattle.bisync_tree.specs.declared.entries.Compare.{Compare}
 use Rattle.bisync_tree.specs.declared.options.Limits.{Limits}
 use Rattle.bisync_device.specs.WorkFolder.{Held, Absent, Kept, WorkFolder, IsSettled, IsImage}
 use Rattle.bisync_work.specs.declared.bases.Pair.TheVariants.{Old}
 use Rattle.bisync_work.specs.Base.{Base, HasBaseIn, IsBase, HasNoBase}
-use Rattle.bisync_work.specs.Locks.{MakesLock}
+use Rattle.bisync_opts.specs.declared.options.Opts.{Opts}
+use Rattle.bisync_work.specs.Locks.{ChangesLock, MakesLock}
 use Rattle.bisync_work.specs.LockTexts.{expiry_of, lock_text}
-use Rattle.bisync_work.specs.Moves.{moved_over}
+use Rattle.bisync_work.specs.Moves.{IsFallen, moved_over}
 use Rattle.bisync_report.specs.declared.ends.End.{End}
+use Rattle.bisync_run.specs.Closing.{but_fallen_or_lock}
 use Rattle.bisync_run.specs.EndKinds.{is_before_lock}
-use Rattle.bisync_run.specs.Entering.{AtMoment}
-use Rattle.bisync_run.specs.FolderBases.{TakesNext}
+use Rattle.bisync_run.specs.Entering.{AtMoment, HasSomeRules}
+use Rattle.bisync_run.specs.FolderBases.{TakesNext, compared}
+use Rattle.bisync_run.specs.ResyncRuns.{Matter}
+use Rattle.bisync_run.specs.ResyncWriting.{stored}
 use Rattle.bisync_run.specs.Untouched.{Remotes, AreUntouched}
 
 -- what is left at return, or an image of it after a stop, where the folder was settled at entry
@@ -28,9 +32,14 @@ LeavesBaseSetBack limits compare f start g now =
 
 -- # The digest of the filters file
 
--- It is as before; or there is no base, or a new one.
-abbrev pub StoresDigestLate : Limits → Compare → WorkFolder → WorkFolder → Type 0
-StoresDigestLate limits compare f g = (g.filters_md5 ≡ f.filters_md5) ⊎ (HasNoBase limits.listing g ⊎ TakesNext limits compare f g)
+-- The base is the one before, and so is the digest; or there is none; or it is a new one, and the digest of the filters file
+-- stands beside it.
+abbrev pub StoresDigestOf : Opts → Limits → WorkFolder → Remotes → WorkFolder → Type 0
+StoresDigestOf opts limits f start g =
+    (base : Option Base) → IsBase limits.listing f base
+    → (IsBase limits.listing g base × (g.filters_md5 ≡ f.filters_md5))
+    ⊎ (HasNoBase limits.listing g
+    ⊎ (TakesNext limits (compared opts start) f g × ((m : Matter opts f start) × (g.filters_md5 ≡ stored m.digest f.filters_md5))))
 
 -- # The lock
 
@@ -38,14 +47,39 @@ StoresDigestLate limits compare f g = (g.filters_md5 ≡ f.filters_md5) ⊎ (Has
 abbrev pub IsOwnLock : Option ℤ → Bool → ℤ → Held → Type 0
 IsOwnLock max_lock told moment held = AtMoment told moment (λ now. held ≡ Kept (lock_text (expiry_of now max_lock)))
 
--- None is there, or the run's own; or, of a run that didn't get one, what the calls that failed left.
-abbrev pub LeavesOwnLock : Option ℤ → Bool → ℤ → End → Held → Held → Type 0
-LeavesOwnLock max_lock told moment end old new =
-    (new ≡ Absent)
-    ⊎ (IsOwnLock max_lock told moment new
-    ⊎ ((is_before_lock end ≡ true) × AtMoment told moment (λ now. MakesLock (lock_text (expiry_of now max_lock)) old new)))
+-- nothing changed, or the rules were read and the calls on the lock failed, at that moment
+abbrev pub MayTakeLock : Opts → Bool → ℤ → WorkFolder → WorkFolder → Type 0
+MayTakeLock opts told moment f g =
+    (g ≡ f) ⊎ (HasSomeRules opts.filters f × AtMoment told moment (λ now. MakesLock (lock_text (expiry_of now opts.max_lock)) f.lock g.lock))
+
+-- None is there; or the run's own, once its rules were read; or, of a run that didn't get one, what the calls on it that failed
+-- left. Of the latter no other name is another, and what is kept is kept.
+abbrev pub LeavesOwnLock : Opts → Bool → ℤ → End → WorkFolder → WorkFolder → Type 0 → Type 0
+LeavesOwnLock opts told moment end f g IsKept =
+    (g.lock ≡ Absent)
+    ⊎ ((HasSomeRules opts.filters f × IsOwnLock opts.max_lock told moment g.lock)
+    ⊎ ((is_before_lock end ≡ true) × ChangesLock f g × IsKept × MayTakeLock opts told moment f g))
+
+-- # The fall of a resync
+
+-- no name but the lock is another, and what is kept is kept; or the listings fell
+abbrev pub StaysOrFell : WorkFolder → WorkFolder → Type 0 → Type 0
+StaysOrFell f g IsKept = (ChangesLock f g × IsKept) ⊎ IsFallen f g
+
+-- # A run that only compares its base
+
+-- only the names that fall changed, and none but the lock where nothing falls
+abbrev pub KeepsButFallen : Bool → WorkFolder → WorkFolder → Type 0
+KeepsButFallen falls f g = (but_fallen_or_lock g ≡ but_fallen_or_lock f) × (falls ≡ false → ChangesLock f g)
 
 -- # Inside this crate
+
+-- the same, with this digest
+abbrev pub StoresDigest : Limits → Compare → Option (List ℕ) → WorkFolder → WorkFolder → Type 0
+StoresDigest limits compare digest f g =
+    (base : Option Base) → IsBase limits.listing f base
+    → (IsBase limits.listing g base × (g.filters_md5 ≡ f.filters_md5))
+    ⊎ (HasNoBase limits.listing g ⊎ (TakesNext limits compare f g × (g.filters_md5 ≡ stored digest f.filters_md5)))
 
 -- the lock is as before, or was written again
 abbrev pub KeepsOwnLock : Option ℤ → Bool → ℤ → Held → Held → Type 0

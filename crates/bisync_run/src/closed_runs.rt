@@ -18,7 +18,7 @@ ghost use Rattle.bisync_run.specs.Entering.{AtMoment, HasSomeRules, IsEntryEnd, 
 ghost use Rattle.bisync_run.specs.FilterRules.{KnowsRules};
 ghost use Rattle.bisync_run.specs.FolderBases.{LeavesFolderBase, LeavesNextInPlace, Writes, compared};
 ghost use Rattle.bisync_run.specs.Grounds.{HasGrounds, IsTold};
-ghost use Rattle.bisync_run.specs.LeftNames.{LeavesBaseSetBack, LeavesOwnLock, StoresDigestLate};
+ghost use Rattle.bisync_run.specs.LeftNames.{KeepsButFallen, LeavesBaseSetBack, LeavesOwnLock, StaysOrFell, StoresDigestOf};
 ghost use Rattle.bisync_run.specs.LockNew.{KeepsLockNew};
 ghost use Rattle.bisync_run.specs.Ordinary.{KeepsOrdinaryRest};
 ghost use Rattle.bisync_run.specs.OrdinaryEnds.{IsOrdinaryEnd};
@@ -63,7 +63,7 @@ pub fn run_to_close<A: Remote, B: Remote, W: Work, C: Clock, S: Sink>(
         LeavesTreesOf mode opts.now limits.now (W.state work.old).folder (by_side (A.state one.old) (B.state two.old)) C.tells (C.moment clock.old) (by_side (A.state one.new) (B.state two.new)) }
     ensures mixed { (mode : Prefer) → opts.now.resync ≡ Some mode → IsTrue A.tells → IsTrue B.tells → KnowsRules W.tells opts.now.filters → LeavesMixOf mode opts.now (W.state work.old).folder (by_side (A.state one.old) (B.state two.old)) (by_side (A.state one.new) (B.state two.new)) }
     ensures outcome { (mode : Prefer) → opts.now.resync ≡ Some mode → IsTrue A.tells → IsTrue B.tells → KnowsRules W.tells opts.now.filters → opts.now.dry_run ≡ false → is_after_good result ≡ true → HasOutcomeOf mode opts.now (W.state work.old).folder (by_side (A.state one.old) (B.state two.old)) (by_side (A.state one.new) (B.state two.new)) }
-    ensures resync_fell { (mode : Prefer) → opts.now.resync ≡ Some mode → IsTrue W.tells → (Rose (W.state work.old).faults (W.state work.new).faults → ⊥) → is_after_good result ≡ false → ChangesLock (W.state work.old).folder (W.state work.new).folder ⊎ IsFallen (W.state work.old).folder (W.state work.new).folder }
+    ensures resync_fell { (mode : Prefer) → opts.now.resync ≡ Some mode → IsTrue W.tells → (Rose (W.state work.old).faults (W.state work.new).faults → ⊥) → is_after_good result ≡ false → StaysOrFell (W.state work.old).folder (W.state work.new).folder (KeepsTree A.tells (A.state one.old) (A.state one.new) × KeepsTree B.tells (B.state two.old) (B.state two.new)) }
     ensures run_answers { opts.now.resync ≡ None → IsTrue A.tells → IsTrue B.tells → IsTrue W.tells →
         AnswersOrdinaryRun opts.now limits.now (W.state work.old).folder (by_side (A.state one.old) (B.state two.old)) C.tells (C.moment clock.old) result }
     ensures unrefused { opts.now.resync ≡ None → IsTrue A.tells → IsTrue B.tells → IsTrue W.tells → is_after_good result ≡ true →
@@ -86,7 +86,7 @@ pub fn run_to_close<A: Remote, B: Remote, W: Work, C: Clock, S: Sink>(
     ensures only_run { opts.now.resync ≡ None → IsOrdinaryEnd opts.now (compare_in opts.now.compare (A.state one.old).window (B.state two.old).window) result }
     ensures only_one { opts.now.resync ≡ None → opts.now.check_sync ≡ CheckSync.Only → KeepsTree A.tells (A.state one.old) (A.state one.new) }
     ensures only_two { opts.now.resync ≡ None → opts.now.check_sync ≡ CheckSync.Only → KeepsTree B.tells (B.state two.old) (B.state two.new) }
-    ensures only_base { opts.now.resync ≡ None → opts.now.check_sync ≡ CheckSync.Only → IsTrue W.tells → lets_fall opts.now.resilient opts.now.dry_run result ≡ false → ChangesLock (W.state work.old).folder (W.state work.new).folder }
+    ensures only_base { opts.now.resync ≡ None → opts.now.check_sync ≡ CheckSync.Only → IsTrue W.tells → KeepsButFallen (lets_fall opts.now.resilient opts.now.dry_run result) (W.state work.old).folder (W.state work.new).folder }
     ensures only_sink { opts.now.resync ≡ None → opts.now.check_sync ≡ CheckSync.Only → S.state sink.new ≡ S.state sink.old }
     ensures entered { IsTrue W.tells → is_before_lock result ≡ false → AtMoment C.tells (C.moment clock.old) (λ now. IsFree now (W.state work.old).folder.lock) × HasSomeRules opts.now.filters (W.state work.old).folder }
     ensures blocked { IsTrue W.tells → AtMoment C.tells (C.moment clock.old) (λ now. KeepsBlocking now (W.state work.old).folder (W.state work.new).folder) }
@@ -106,8 +106,8 @@ pub fn run_to_close<A: Remote, B: Remote, W: Work, C: Clock, S: Sink>(
     ensures lock { IsTrue W.tells → (Rose (W.state work.old).faults (W.state work.new).faults → ⊥) → LeavesLock result (W.state work.old).folder (W.state work.new).folder }
     ensures freed { IsTrue W.tells → has_freed result ≡ true → (W.state work.new).folder.lock ≡ Absent }
     ensures lock_new { IsTrue W.tells → (is_after_good result ≡ true) ⊎ (Rose (W.state work.old).faults (W.state work.new).faults → ⊥) → KeepsLockNew (W.state work.old).folder (W.state work.new).folder }
-    ensures own_lock { IsTrue W.tells → LeavesOwnLock opts.now.max_lock C.tells (C.moment clock.old) result (W.state work.old).folder.lock (W.state work.new).folder.lock }
-    ensures digest_late { IsTrue W.tells → StoresDigestLate limits.now (compared opts.now (by_side (A.state one.old) (B.state two.old))) (W.state work.old).folder (W.state work.new).folder }
+    ensures own_lock { IsTrue W.tells → LeavesOwnLock opts.now C.tells (C.moment clock.old) result (W.state work.old).folder (W.state work.new).folder (KeepsTree A.tells (A.state one.old) (A.state one.new) × KeepsTree B.tells (B.state two.old) (B.state two.new)) }
+    ensures digest_late { (mode : Prefer) → opts.now.resync ≡ Some mode → IsTrue W.tells → StoresDigestOf opts.now limits.now (W.state work.old).folder (by_side (A.state one.old) (B.state two.old)) (W.state work.new).folder }
     ensures no_digest { IsTrue W.tells → opts.now.filters ≡ None → (W.state work.new).folder.filters_md5 ≡ (W.state work.old).folder.filters_md5 }
     ensures entry { IsTrue W.tells → is_unlocked result ≡ true → IsEntryEnd opts.now.filters (W.state work.old).folder C.tells (C.moment clock.old) result }
     ensures unlocked { IsTrue W.tells → is_unlocked result ≡ true → (W.state work.new).folder ≡ (W.state work.old).folder }

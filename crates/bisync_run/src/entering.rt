@@ -3,13 +3,12 @@
 ghost use Rattle.std.specs.Prelude.{◌≡◌, ◌≢◌, IsTrue, true, IfOk, IfErr, OnOk, None};
 ghost use Rattle.bisync_device.specs.Work.{KeepsFolder};
 ghost use Rattle.bisync_tree.specs.Ranges.{IsLongEnough};
-ghost use Rattle.bisync_work.specs.Locks.{ChangesLock, IsFree, KeepsBlocking, MakesLock};
-ghost use Rattle.bisync_work.specs.LockTexts.{expiry_of, lock_text};
+ghost use Rattle.bisync_work.specs.Locks.{ChangesLock, IsFree, KeepsBlocking};
 ghost use Rattle.bisync_run.specs.Counts.{counts, HasCauses};
 ghost use Rattle.bisync_run.specs.EndKinds.{is_before_lock};
 ghost use Rattle.bisync_run.specs.Entering.{AtMoment, IsEntryEnd, IsHeldBack, IsRulesEnd, IsNoLock, session_of};
 ghost use Rattle.bisync_run.specs.FilterRules.{AreRulesOf, KnowsRules};
-ghost use Rattle.bisync_run.specs.LeftNames.{IsOwnLock};
+ghost use Rattle.bisync_run.specs.LeftNames.{IsOwnLock, MayTakeLock};
 ghost use Rattle.bisync_run.specs.LockNew.{KeepsLockNew};
 ghost use Rattle.bisync_run.specs.ResyncEnds.{IsUnlockedEnd};
 
@@ -64,7 +63,7 @@ pub fn enter<W: Work, C: Clock>(
     ensures kept { IsTrue W.tells → IfErr result (λ end. end ≢ End.WorkFault → (W.state work.new).folder ≡ (W.state work.old).folder) }
     ensures others { IsTrue W.tells → ChangesLock (W.state work.old).folder (W.state work.new).folder }
     ensures own_lock { IsTrue W.tells → OnOk result (IsOwnLock opts.now.max_lock C.tells (C.moment clock.old) (W.state work.new).folder.lock) }
-    ensures makes_lock { IsTrue W.tells → AtMoment C.tells (C.moment clock.old) (λ now. MakesLock (lock_text (expiry_of now opts.now.max_lock)) (W.state work.old).folder.lock (W.state work.new).folder.lock) }
+    ensures makes_lock { IsTrue W.tells → IfErr result (λ _. MayTakeLock opts.now C.tells (C.moment clock.old) (W.state work.old).folder (W.state work.new).folder) }
     ensures lock_new { IsTrue W.tells → OnOk result (KeepsLockNew (W.state work.old).folder (W.state work.new).folder) }
     ensures moment { IsTrue C.tells → C.moment clock.new ≡ C.moment clock.old }
     ensures left { (W.state work.old).left ≡ None → (W.state work.new).left ≡ None }

@@ -1,6 +1,6 @@
 //! A resync from its first change on.
 
-ghost use Rattle.std.specs.Prelude.{◌≡◌, ◌⊎◌, ◌<◌, ◌^◌, ℕ, IsTrue, IsOk, IfOk, IfErr, OnOk, Some, None, length, sum_by};
+ghost use Rattle.std.specs.Prelude.{◌≡◌, ◌⊎◌, ◌<◌, ◌^◌, ℕ, IsTrue, IsOk, IfOk, IfErr, OnOk, Option, Some, None, length, sum_by};
 ghost use Rattle.bisync_tree.specs.Ranges.{IsLongEnough};
 ghost use Rattle.bisync_model.specs.Trees.{by_side};
 ghost use Rattle.bisync_model.specs.Changes.{changes_of};
@@ -8,7 +8,7 @@ ghost use Rattle.bisync_plan.specs.Plans.{AreWritable, header_of};
 ghost use Rattle.bisync_device.specs.Faults.{Rose};
 ghost use Rattle.bisync_device.specs.WorkFolder.{IsSettled};
 ghost use Rattle.bisync_transfer.specs.StepTrees.{AreDone};
-ghost use Rattle.bisync_work.specs.Base.{IsBase, HasNoBase};
+ghost use Rattle.bisync_work.specs.Base.{Base, IsBase, HasNoBase};
 ghost use Rattle.bisync_work.specs.Moves.{IsFallen};
 ghost use Rattle.bisync_run.specs.CarryingOut.{AreWithin, LeavesOneBase, LosesOrNext, but_carried, AreCarriedOut};
 ghost use Rattle.bisync_run.specs.CountedChanges.{HasCounted};
@@ -16,7 +16,7 @@ ghost use Rattle.bisync_run.specs.Counts.{counts, HasCauses};
 ghost use Rattle.bisync_run.specs.EndKinds.{may_have_switched_after};
 ghost use Rattle.bisync_run.specs.LeftNames.{FallsAs, KeepsOwnLock};
 ghost use Rattle.bisync_run.specs.LockNew.{KeepsLockNew};
-ghost use Rattle.bisync_run.specs.ResyncWriting.{next_base};
+ghost use Rattle.bisync_run.specs.ResyncWriting.{next_base, stored};
 ghost use Rattle.bisync_run.specs.Stepping.{IsPartDone, FindsAll, FindsTold, IsStepEnd, MovedDiffers, MovedIsRead};
 
 use crate::prepared::Prepared;
@@ -52,8 +52,9 @@ pub fn carry_out<A: Remote, B: Remote, W: Work, C: Clock>(
     ensures falls_as { IsTrue W.tells → (Rose (W.state work.old).faults (W.state work.new).faults → ⊥) → IfErr result (λ _. FallsAs (W.state work.old).folder (W.state work.new).folder) }
     ensures fell { IsTrue W.tells → (Rose (W.state work.old).faults (W.state work.new).faults → ⊥) → IfErr result (λ _. IsFallen (W.state work.old).folder (W.state work.new).folder) }
     ensures own_lock { IsTrue W.tells → KeepsOwnLock renewal.max_lock C.tells (C.moment clock.old) (W.state work.old).folder.lock (W.state work.new).folder.lock }
-    ensures digest_late { IsTrue W.tells → (limit : ℕ) → limit < 2 ^ 64 → AreWithin limit prepared
-        → ((W.state work.new).folder.filters_md5 ≡ (W.state work.old).folder.filters_md5) ⊎ (HasNoBase limit (W.state work.new).folder ⊎ IsBase limit (W.state work.new).folder (Some (next_base prepared))) }
+    ensures digest_late { IsTrue W.tells → (limit : ℕ) → limit < 2 ^ 64 → AreWithin limit prepared → (base : Option Base) → IsBase limit (W.state work.old).folder base
+        → (IsBase limit (W.state work.new).folder base × ((W.state work.new).folder.filters_md5 ≡ (W.state work.old).folder.filters_md5))
+        ⊎ (HasNoBase limit (W.state work.new).folder ⊎ (IsBase limit (W.state work.new).folder (Some (next_base prepared)) × ((W.state work.new).folder.filters_md5 ≡ stored digest.now (W.state work.old).folder.filters_md5))) }
     ensures carried_out { IsTrue W.tells → (limit : ℕ) → limit < 2 ^ 64 → AreWithin limit prepared → OnOk result (AreCarriedOut limit prepared digest.now (W.state work.old).folder (W.state work.new).folder) }
     ensures done { IsTrue A.tells → IsTrue B.tells → OnOk result (AreDone prepared.plan.steps.items (by_side (A.state one.old) (B.state two.old)) (by_side (A.state one.new) (B.state two.new))) }
     ensures part { IsTrue A.tells → IsTrue B.tells → IsPartDone prepared.plan.steps.items (by_side (A.state one.old) (B.state two.old)) (by_side (A.state one.new) (B.state two.new)) }

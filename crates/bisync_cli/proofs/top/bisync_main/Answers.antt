@@ -1,6 +1,7 @@
 use Rattle.std.proofs.Common.{◌<◌, ◌^◌, arith, refl}
 use Rattle.bisync_tree.specs.declared.options.TheConstants.Limits.{REAL}
 use Rattle.bisync_model.specs.Trees.{by_side}
+use Rattle.bisync_run.proofs.FallsAsLaws.{keeps_tree_same}
 use Rattle.bisync_run.proofs.BlockedFolders.{blocked_same}
 use Rattle.bisync_cli.specs.Tasks.{task_in}
 use Rattle.bisync_cli.proofs.Runs.{of_run, folder_images_same, images_same, run_images_same, kept_images_same, safe_same, own_lock_same, ends_run}
@@ -203,4 +204,4 @@ pub returns-clause-resync_fell : goal.returns-clause-resync_fell
 returns-clause-resync_fell g c = of_run _ _ _ _ c.in-Ok-Run.ensures.read.ok c.in-Ok-Run.field-0-is c.run-end.ensures.resync_fell
 
 pub returns-in-Err-OutOfMemory-clause-own_lock : goal.returns-in-Err-OutOfMemory-clause-own_lock
-returns-in-Err-OutOfMemory-clause-own_lock g c = own_lock_same (task_in c.args.words.now) _ _ _ _ _ c.told-in-Err-OutOfMemory.ensures.end
+returns-in-Err-OutOfMemory-clause-own_lock g c = own_lock_same (task_in c.args.words.now) _ _ _ _ (g.W.Work.state c.args.work.now).folder _ (keeps_tree_same _ (g.A.Remote.state c.args.one.now), keeps_tree_same _ (g.B.Remote.state c.args.two.now)) c.told-in-Err-OutOfMemory.ensures.end

@@ -1,4 +1,4 @@
-use Rattle.std.proofs.Common.{◌∙◌, [], ap, inl, inr, subst, sym, ⊎_elim}
+use Rattle.std.proofs.Common.{◌∙◌, [], ap, inl, inr, refl, subst, sym, ⊎_elim}
 use Rattle.std.proofs.lemmas.List.{append-nil}
 use Rattle.bisync_device.specs.WorkFolder.{WorkFolder}
 use Rattle.bisync_model.specs.Trees.{by_side}
@@ -20,7 +20,7 @@ use Rattle.bisync_run.proofs.CoursesBefore.{run_answers_before, unrefused_before
 use Rattle.bisync_run.proofs.DoneSteps.{untouched_same}
 use Rattle.bisync_run.proofs.EndCases.{false_true, good_is_after_good}
 use Rattle.bisync_run.proofs.EndKindLaws.{unlocked_is_own, unlocked_not_after_good, unlocked_fell, freed_is_after_good}
-use Rattle.bisync_run.proofs.FallsAsLaws.{resync_fell, where_it_falls}
+use Rattle.bisync_run.proofs.FallsAsLaws.{keeps_tree_same, resync_fell, where_it_falls}
 use Rattle.bisync_run.proofs.FolderBases.{folder_base_closed, folder_base_unlocked, folder_next_closed}
 use Rattle.bisync_run.proofs.LockNewLaws.{lock_new_twice, lock_new_same}
 use Rattle.bisync_run.proofs.LockedFolders.{base_past}
@@ -86,8 +86,7 @@ returns-in-Err-clause-lines g c sink = ([], sym (append-nil (g.S.Sink.state c.ar
 
 pub returns-clause-answers : goal.returns-clause-answers
 returns-clause-answers g c mode mode_is one two work =
-    let a = g.A.Remote.state c.args.one.now in let b = g.B.Remote.state c.args.two.now in let s = sides_of c.args.opts.now.compare c.in-Ok.entered.rules a b in
-    let f = (g.W.Work.state c.args.work.now).folder in let f2 = (g.W.Work.state c.enter.new.work).folder in let changes = c.in-Ok.ensures.others work in
+    let a = g.A.Remote.state c.args.one.now in let b = g.B.Remote.state c.args.two.now in let s = sides_of c.args.opts.now.compare c.in-Ok.entered.rules a b in let f = (g.W.Work.state c.args.work.now).folder in let f2 = (g.W.Work.state c.enter.new.work).folder in let changes = c.in-Ok.ensures.others work in
     let m : Matter c.args.opts.now f (by_side a b) = record { rules = c.in-Ok.entered.rules; digest = c.in-Ok.entered.digest; are = c.in-Ok.ensures.rules (inl work) } in
     let answer = answers_before mode c.args.limits.now f f2 changes s c.close.result
     (answers_closed mode c.args.limits.now f2 s c.args.opts.now.dry_run c.held-ended.result c.close.result c.close.ensures.end
@@ -96,14 +95,12 @@ returns-clause-answers g c mode mode_is one two work =
 
 pub returns-clause-accepted : goal.returns-clause-accepted
 returns-clause-accepted g c mode mode_is one two work good =
-    let f = (g.W.Work.state c.args.work.now).folder in let m : Matter c.args.opts.now f _ = record { rules = c.in-Ok.entered.rules; digest = c.in-Ok.entered.digest; are = c.in-Ok.ensures.rules (inl work) } in
-    let ok = after_good_was_ok _ _ c.held-ended.result c.close.result c.held-ended.ensures.causes.fault c.close.ensures.end good in
+    let f = (g.W.Work.state c.args.work.now).folder in let m : Matter c.args.opts.now f _ = record { rules = c.in-Ok.entered.rules; digest = c.in-Ok.entered.digest; are = c.in-Ok.ensures.rules (inl work) } in let ok = after_good_was_ok _ _ c.held-ended.result c.close.result c.held-ended.ensures.causes.fault c.close.ensures.end good in
     (c.in-Ok.ensures.free work, (m, none_before mode c.args.limits.now f _ (c.in-Ok.ensures.others work) _ (on_ok c.held-ended.result ok (c.held-ended.ensures.accepted mode mode_is one two work))))
 
 pub returns-clause-resynced : goal.returns-clause-resynced
 returns-clause-resynced g c mode mode_is one two work dry good =
-    let f = (g.W.Work.state c.args.work.now).folder in let m : Matter c.args.opts.now f _ = record { rules = c.in-Ok.entered.rules; digest = c.in-Ok.entered.digest; are = c.in-Ok.ensures.rules (inl work) } in
-    let ok = after_good_was_ok _ _ c.held-ended.result c.close.result c.held-ended.ensures.causes.fault c.close.ensures.end good in
+    let f = (g.W.Work.state c.args.work.now).folder in let m : Matter c.args.opts.now f _ = record { rules = c.in-Ok.entered.rules; digest = c.in-Ok.entered.digest; are = c.in-Ok.ensures.rules (inl work) } in let ok = after_good_was_ok _ _ c.held-ended.result c.close.result c.held-ended.ensures.causes.fault c.close.ensures.end good in
     let done = done_unlocked mode c.args.limits.now _ _ _ c.in-Ok.entered.digest f _ _ (c.in-Ok.ensures.others work)
     (done_closed mode c.args.limits.now _ _ _ c.in-Ok.entered.digest _ _ _
     (on_ok c.held-ended.result ok (c.held-ended.ensures.resynced mode mode_is one two work dry))
@@ -111,8 +108,7 @@ returns-clause-resynced g c mode mode_is one two work dry good =
 
 pub returns-clause-numbers : goal.returns-clause-numbers
 returns-clause-numbers g c mode mode_is one two work good =
-    let a = g.A.Remote.state c.args.one.now in let b = g.B.Remote.state c.args.two.now in let s = sides_of c.args.opts.now.compare c.in-Ok.entered.rules a b in
-    let f = (g.W.Work.state c.args.work.now).folder in let m : Matter c.args.opts.now f (by_side a b) = record { rules = c.in-Ok.entered.rules; digest = c.in-Ok.entered.digest; are = c.in-Ok.ensures.rules work } in
+    let a = g.A.Remote.state c.args.one.now in let b = g.B.Remote.state c.args.two.now in let s = sides_of c.args.opts.now.compare c.in-Ok.entered.rules a b in let f = (g.W.Work.state c.args.work.now).folder in let m : Matter c.args.opts.now f (by_side a b) = record { rules = c.in-Ok.entered.rules; digest = c.in-Ok.entered.digest; are = c.in-Ok.ensures.rules work } in
     (m, numbers_closed (IsGoodEndOf c.args.opts.now.dry_run mode s) _ _ c.held-ended.result c.close.result c.held-ended.ensures.causes.fault c.close.ensures.end (c.held-ended.ensures.good mode mode_is one two) good)
 
 pub returns-clause-base : goal.returns-clause-base
@@ -142,8 +138,7 @@ returns-clause-dry g c work dry =
 
 pub returns-clause-set_aside : goal.returns-clause-set_aside
 returns-clause-set_aside g c mode mode_is work dry good =
-    let f = (g.W.Work.state c.args.work.now).folder in let f2 = (g.W.Work.state c.enter.new.work).folder in let mid = (g.W.Work.state c.held-ended.new.work).folder in
-    let h = (g.W.Work.state c.close.new.work).folder in let ok = after_good_was_ok _ _ c.held-ended.result c.close.result c.held-ended.ensures.causes.fault c.close.ensures.end good in
+    let f = (g.W.Work.state c.args.work.now).folder in let f2 = (g.W.Work.state c.enter.new.work).folder in let mid = (g.W.Work.state c.held-ended.new.work).folder in let h = (g.W.Work.state c.close.new.work).folder in let ok = after_good_was_ok _ _ c.held-ended.result c.close.result c.held-ended.ensures.causes.fault c.close.ensures.end good in
     aside_closed c.args.opts.now c.in-Ok.entered.rules c.in-Ok.entered.digest f f2 mid h (c.in-Ok.ensures.rules (inl work)) (c.in-Ok.ensures.others work)
     (on_ok c.held-ended.result ok (c.held-ended.ensures.set_aside mode mode_is work dry)) (c.close.ensures.kept work (falls_ok c.args.opts.now.resilient c.args.opts.now.dry_run c.held-ended.result ok))
 
@@ -171,8 +166,7 @@ returns-clause-freed g c work freed =
 
 pub returns-clause-lock_new : goal.returns-clause-lock_new
 returns-clause-lock_new g c work sure =
-    let a = (g.W.Work.state c.args.work.now).faults in let b = (g.W.Work.state c.enter.new.work).faults in let m = (g.W.Work.state c.held-ended.new.work).faults in
-    let z = (g.W.Work.state c.close.new.work).faults in
+    let a = (g.W.Work.state c.args.work.now).faults in let b = (g.W.Work.state c.enter.new.work).faults in let m = (g.W.Work.state c.held-ended.new.work).faults in let z = (g.W.Work.state c.close.new.work).faults in
     let still = ⊎_elim (λ good. inl (after_good_was_ok _ _ c.held-ended.result c.close.result c.held-ended.ensures.causes.fault c.close.ensures.end good))
     (λ never. inr (no_rise_mid a b m z never c.in-Ok.ensures.causes.later.work c.close.ensures.later)) sure in
     lock_new_twice (lock_new_twice (c.in-Ok.ensures.lock_new work) (c.held-ended.ensures.lock_new work still))
@@ -203,8 +197,7 @@ returns-clause-built g c = closed_built _ _ c.held-ended.result c.close.result c
 
 pub returns-clause-report : goal.returns-clause-report
 returns-clause-report g c mode mode_is one two sink work =
-    let a = g.A.Remote.state c.args.one.now in let b = g.B.Remote.state c.args.two.now in
-    let f = (g.W.Work.state c.args.work.now).folder in let m : Matter c.args.opts.now f (by_side a b) = record { rules = c.in-Ok.entered.rules; digest = c.in-Ok.entered.digest; are = c.in-Ok.ensures.rules work } in
+    let a = g.A.Remote.state c.args.one.now in let b = g.B.Remote.state c.args.two.now in let f = (g.W.Work.state c.args.work.now).folder in let m : Matter c.args.opts.now f (by_side a b) = record { rules = c.in-Ok.entered.rules; digest = c.in-Ok.entered.digest; are = c.in-Ok.ensures.rules work } in
     tells_closed mode c.args.opts.now f (by_side a b) (by_side (g.A.Remote.state c.held-ended.new.one) (g.B.Remote.state c.held-ended.new.two)) m
     (g.S.Sink.state c.args.sink.now).bytes (g.S.Sink.state c.held-ended.new.sink).bytes _ _ c.held-ended.result c.close.result
     c.held-ended.ensures.well c.held-ended.ensures.causes.fault c.close.ensures.end (c.held-ended.ensures.report mode mode_is one two sink)
@@ -249,8 +242,7 @@ returns-in-Err-clause-run_report g c none one two work sink =
 
 pub returns-clause-run_answers : goal.returns-clause-run_answers
 returns-clause-run_answers g c none one two work =
-    let a = g.A.Remote.state c.args.one.now in let b = g.B.Remote.state c.args.two.now in
-    let f = (g.W.Work.state c.args.work.now).folder in let m : Matter c.args.opts.now f (by_side a b) = record { rules = c.in-Ok.entered.rules; digest = c.in-Ok.entered.digest; are = c.in-Ok.ensures.rules (inl work) } in
+    let a = g.A.Remote.state c.args.one.now in let b = g.B.Remote.state c.args.two.now in let f = (g.W.Work.state c.args.work.now).folder in let m : Matter c.args.opts.now f (by_side a b) = record { rules = c.in-Ok.entered.rules; digest = c.in-Ok.entered.digest; are = c.in-Ok.ensures.rules (inl work) } in
     let s = sides_of c.args.opts.now.compare c.in-Ok.entered.rules a b in let f2 = (g.W.Work.state c.enter.new.work).folder in
     let answer = run_answers_before c.args.opts.now c.args.limits.now f f2 (c.in-Ok.ensures.others work) s c.in-Ok.entered.digest c.close.result
     (run_answers_closed c.args.opts.now c.args.limits.now f2 s c.in-Ok.entered.digest c.held-ended.result c.close.result c.close.ensures.end
@@ -318,13 +310,14 @@ returns-clause-run_report g c none one two work sink =
     c.held-ended.ensures.well c.held-ended.ensures.causes.fault c.close.ensures.end (c.held-ended.ensures.run_report none one two work sink)
 
 pub returns-in-Err-clause-only_base : goal.returns-in-Err-clause-only_base
-returns-in-Err-clause-only_base g c none only work stays = c.in-Err.ensures.others work
+returns-in-Err-clause-only_base g c none only work = (fallen_same (g.W.Work.state c.args.work.now).folder (g.W.Work.state c.enter.new.work).folder (c.in-Err.ensures.others work), λ stays. c.in-Err.ensures.others work)
 
 pub returns-clause-only_base : goal.returns-clause-only_base
-returns-clause-only_base g c none only work stays =
-    changes_closed (g.W.Work.state c.args.work.now).folder (g.W.Work.state c.enter.new.work).folder (g.W.Work.state c.held-ended.new.work).folder (g.W.Work.state c.close.new.work).folder
-    (c.in-Ok.ensures.others work) (c.held-ended.ensures.compares none only work)
-    (c.close.ensures.kept work (falls_closed c.args.opts.now.resilient c.args.opts.now.dry_run c.held-ended.result c.close.result c.close.ensures.end stays))
+returns-clause-only_base g c none only work = (
+  fallen_closed _ _ _ _ (c.in-Ok.ensures.others work) (c.held-ended.ensures.compares none only work) (c.close.ensures.closes work),
+  λ stays. changes_closed (g.W.Work.state c.args.work.now).folder (g.W.Work.state c.enter.new.work).folder (g.W.Work.state c.held-ended.new.work).folder (g.W.Work.state c.close.new.work).folder (c.in-Ok.ensures.others work)
+      (c.held-ended.ensures.compares none only work) (c.close.ensures.kept work (falls_closed c.args.opts.now.resilient c.args.opts.now.dry_run c.held-ended.result c.close.result c.close.ensures.end stays)),
+)
 
 pub returns-clause-blocked : goal.returns-clause-blocked
 returns-clause-blocked g c work = blocked_nowhere (g.W.Work.state c.args.work.now).folder _ _ _ (c.in-Ok.ensures.free work)
@@ -397,17 +390,10 @@ returns-clause-folder_next g c work writes good =
 -- # What is left of some names
 
 pub returns-in-Err-clause-own_lock : goal.returns-in-Err-clause-own_lock
-returns-in-Err-clause-own_lock g c work = inr (inr (c.in-Err.ensures.only, c.in-Err.ensures.makes_lock work))
+returns-in-Err-clause-own_lock g c work = inr (inr (c.in-Err.ensures.only, c.in-Err.ensures.others work, (keeps_tree_same g.A.Remote.tells (g.A.Remote.state c.args.one.now), keeps_tree_same g.B.Remote.tells (g.B.Remote.state c.args.two.now)), c.in-Err.ensures.makes_lock work))
 
 pub returns-clause-own_lock : goal.returns-clause-own_lock
-returns-clause-own_lock g c work = own_lock_closed _ _ _ _ c.close.result _ _ _ _ c.in-Ok.ensures.moment (c.in-Ok.ensures.own_lock work) (c.held-ended.ensures.own_lock work) (c.close.ensures.closes work).lock
-
-pub returns-in-Err-clause-digest_late : goal.returns-in-Err-clause-digest_late
-returns-in-Err-clause-digest_late g c work = inl (ap (λ (w : WorkFolder). w.filters_md5) (c.in-Err.ensures.others work).rest)
-
-pub returns-clause-digest_late : goal.returns-clause-digest_late
-returns-clause-digest_late g c work =
-    late_closed c.args.limits.now _ (g.W.Work.state c.args.work.now).folder (g.W.Work.state c.enter.new.work).folder (g.W.Work.state c.held-ended.new.work).folder (g.W.Work.state c.close.new.work).folder (c.in-Ok.ensures.others work) (c.close.ensures.closes work) (c.held-ended.ensures.digest_late work)
+returns-clause-own_lock g c work = own_lock_closed c.args.opts.now _ _ _ _ c.close.result (g.W.Work.state c.args.work.now).folder (g.W.Work.state c.enter.new.work).folder (g.W.Work.state c.held-ended.new.work).folder (g.W.Work.state c.close.new.work).folder (c.in-Ok.entered.rules, c.in-Ok.entered.digest, c.in-Ok.ensures.rules (inl work)) c.in-Ok.ensures.moment (c.in-Ok.ensures.own_lock work) (c.held-ended.ensures.own_lock work) (c.close.ensures.closes work).lock
 
 pub returns-in-Err-clause-set_back : goal.returns-in-Err-clause-set_back
 returns-in-Err-clause-set_back g c none one two work before is = inl (untouched_same (by_side (g.A.Remote.state c.args.one.now) (g.B.Remote.state c.args.two.now)))
@@ -439,11 +425,20 @@ returns-clause-outcome g c mode mode_is one two known dry good =
     (record { rules = c.in-Ok.entered.rules; digest = c.in-Ok.entered.digest; are = c.in-Ok.ensures.rules known }, on_ok c.held-ended.result ok (c.held-ended.ensures.outcome mode mode_is one two dry))
 
 pub returns-in-Err-clause-resync_fell : goal.returns-in-Err-clause-resync_fell
-returns-in-Err-clause-resync_fell g c mode mode_is work never bad = inl (c.in-Err.ensures.others work)
+returns-in-Err-clause-resync_fell g c mode mode_is work never bad = inl (c.in-Err.ensures.others work, (keeps_tree_same g.A.Remote.tells (g.A.Remote.state c.args.one.now), keeps_tree_same g.B.Remote.tells (g.B.Remote.state c.args.two.now)))
 
 pub returns-clause-resync_fell : goal.returns-clause-resync_fell
 returns-clause-resync_fell g c mode mode_is work never bad =
     let still = no_rise_mid _ (g.W.Work.state c.enter.new.work).faults (g.W.Work.state c.held-ended.new.work).faults _ never c.in-Ok.ensures.causes.later.work c.close.ensures.later in
     let last = no_rise_last _ (g.W.Work.state c.enter.new.work).faults (g.W.Work.state c.held-ended.new.work).faults _ never c.in-Ok.ensures.causes.later.work c.held-ended.ensures.causes.later.work in
-    resync_fell c.args.opts.now.resilient c.args.opts.now.dry_run c.held-ended.result c.close.result _ (g.W.Work.state c.enter.new.work).folder (g.W.Work.state c.held-ended.new.work).folder _
+    resync_fell _ c.args.opts.now.resilient c.args.opts.now.dry_run c.held-ended.result c.close.result _ (g.W.Work.state c.enter.new.work).folder (g.W.Work.state c.held-ended.new.work).folder _
     c.held-ended.ensures.well c.close.ensures.end bad (c.in-Ok.ensures.others work) (c.held-ended.ensures.fell mode mode_is work still) (c.close.ensures.kept work) (λ falls. c.close.ensures.fell work falls last)
+
+pub returns-in-Err-clause-digest_late : goal.returns-in-Err-clause-digest_late
+returns-in-Err-clause-digest_late g c mode mode_is work base is =
+    inl (base_past (g.W.Work.state c.args.work.now).folder (g.W.Work.state c.enter.new.work).folder (c.in-Err.ensures.others work) c.args.limits.now.listing base is, ap (λ (w : WorkFolder). w.filters_md5) (c.in-Err.ensures.others work).rest)
+
+pub returns-clause-digest_late : goal.returns-clause-digest_late
+returns-clause-digest_late g c mode mode_is work =
+    late_closed c.args.limits.now _ (g.W.Work.state c.args.work.now).folder (g.W.Work.state c.enter.new.work).folder (g.W.Work.state c.held-ended.new.work).folder (g.W.Work.state c.close.new.work).folder (c.in-Ok.ensures.others work) (c.close.ensures.closes work) c.args.opts.now
+    (by_side (g.A.Remote.state c.args.one.now) (g.B.Remote.state c.args.two.now)) refl (record { rules = c.in-Ok.entered.rules; digest = c.in-Ok.entered.digest; are = c.in-Ok.ensures.rules (inl work) }) (c.held-ended.ensures.digest_late mode mode_is work)

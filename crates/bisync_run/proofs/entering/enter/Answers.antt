@@ -1,7 +1,7 @@
-use Rattle.std.proofs.Common.{rules, FitsSigned, ◌∙◌}
+use Rattle.std.proofs.Common.{rules, FitsSigned, ◌∙◌, inl, inr}
 use Rattle.std.proofs.lemmas.Int.{to_z-of_z}
 use Rattle.std.specs.Int.{w64}
-use Rattle.bisync_run.proofs.OwnLocks.{made_same}
+use Rattle.bisync_run.proofs.OwnLocks.{made_since, some_rules}
 use Rattle.bisync_run.proofs.BlockedFolders.{blocked_same, blocked_since}
 use Rattle.bisync_run.proofs.entering.enter.Goals as goal
 
@@ -26,7 +26,16 @@ returns-in-Err-take_lock-clause-blocked g c work =
 -- # The lock
 
 pub returns-then-is_err-clause-makes_lock : goal.returns-then-is_err-clause-makes_lock
-returns-then-is_err-clause-makes_lock g c work = made_same _ _ _ (g.W.Work.state c.args.work.now).folder _ (c.attach.ensures.folder work)
+returns-then-is_err-clause-makes_lock g c work = inl (c.attach.ensures.folder work)
 
 pub returns-in-Err-clause-makes_lock : goal.returns-in-Err-clause-makes_lock
-returns-in-Err-clause-makes_lock g c work = made_same _ _ _ (g.W.Work.state c.args.work.now).folder _ (c.in-Err.ensures.folder work ∙ c.attach.ensures.folder work)
+returns-in-Err-clause-makes_lock g c work = inl (c.in-Err.ensures.folder work ∙ c.attach.ensures.folder work)
+
+pub returns-in-Err-take_lock-clause-makes_lock : goal.returns-in-Err-take_lock-clause-makes_lock
+returns-in-Err-take_lock-clause-makes_lock g c work =
+    let now : FitsSigned w64 c.now-now.result = search rules in
+    inr (
+      some_rules _ (g.W.Work.state c.args.work.now).folder (g.W.Work.state c.attach.new.self).folder (c.attach.ensures.folder work) _ _ (c.in-Ok.ensures.rules (inl work)),
+      made_since _ _ _ _ (g.W.Work.state c.args.work.now).folder _ (g.W.Work.state c.take_lock.new.work).folder (c.in-Ok.ensures.folder work ∙ c.attach.ensures.folder work)
+          (λ clock. to_z-of_z w64 _ now ∙ c.now-now.ensures.told clock) (c.take_lock.ensures.lock work),
+    )

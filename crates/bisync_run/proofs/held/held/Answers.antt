@@ -1,5 +1,4 @@
-use Rattle.std.proofs.Common.{◌∙◌, ap, inl, sym, subst, OnOk}
-use Rattle.bisync_device.specs.WorkFolder.{WorkFolder}
+use Rattle.std.proofs.Common.{◌∙◌, sym, subst, OnOk}
 use Rattle.bisync_tree.specs.declared.options.Prefer.{Prefer}
 use Rattle.bisync_model.specs.Trees.{by_side}
 use Rattle.bisync_run.specs.HeldResyncs.{TellsPlan, end_of}
@@ -62,9 +61,6 @@ returns-in-None-clause-folder_base g c work base is =
 pub returns-in-None-clause-folder_next : goal.returns-in-None-clause-folder_next
 returns-in-None-clause-folder_next g c work writes =
     map_ok c.ordinary.result (λ out. (out.0, λ none. out.1)) (c.ordinary.ensures.folder_next work writes.0 (writes.1 c.in-None.is))
-
-pub returns-in-None-clause-digest_late : goal.returns-in-None-clause-digest_late
-returns-in-None-clause-digest_late g c work = inl (ap (λ (w : WorkFolder). w.filters_md5) (c.ordinary.ensures.rest work))
 
 -- # What both sides alone tell
 

@@ -1,4 +1,4 @@
-use Rattle.std.proofs.Common.{inl, inr, ap, refl, ⊎_elim}
+use Rattle.std.proofs.Common.{◌∙◌, inl, inr, ap, refl, ⊎_elim}
 use Rattle.bisync_device.specs.WorkFolder.{WorkFolder}
 use Rattle.bisync_run.specs.ResyncWriting.{next_base}
 use Rattle.bisync_run.proofs.BasesSetBack.{digest_past}
@@ -48,24 +48,6 @@ returns-clause-folder_base g c work limit small fits base is =
 
 -- # The digest
 
-pub returns-in-Err-clause-digest_late : goal.returns-in-Err-clause-digest_late
-returns-in-Err-clause-digest_late g c work limit small fits = ⊎_elim inl (λ none. inr (inl (none limit))) (c.write_resync.ensures.digest_late work)
-
-pub returns-in-Err-do_steps-clause-digest_late : goal.returns-in-Err-do_steps-clause-digest_late
-returns-in-Err-do_steps-clause-digest_late g c work limit small fits =
-    digest_past limit (next_base c.args.prepared) (g.W.Work.state c.args.work.now).folder (g.W.Work.state c.write_resync.new.work).folder (g.W.Work.state c.do_steps.new.work).folder
-    (c.write_resync.ensures.digest_late work) (c.do_steps.ensures.lock work)
-
-pub returns-in-Ok-switch-clause-digest_late : goal.returns-in-Ok-switch-clause-digest_late
-returns-in-Ok-switch-clause-digest_late g c work limit small fits =
-    inr (none_or_next limit (g.W.Work.state c.write_resync.new.work).folder (g.W.Work.state c.do_steps.new.work).folder (g.W.Work.state c.switch.new.work).folder
-    (next_base c.args.prepared) small (c.in-Ok.ensures.no_base work limit) (c.in-Ok.ensures.ready work limit fits.one fits.two) (c.in-Ok-do_steps.ensures.lock work) (c.switch.ensures.switches work))
-
-pub returns-clause-digest_late : goal.returns-clause-digest_late
-returns-clause-digest_late g c work limit small fits =
-    inr (none_or_next limit (g.W.Work.state c.write_resync.new.work).folder (g.W.Work.state c.do_steps.new.work).folder (g.W.Work.state c.switch.new.work).folder
-    (next_base c.args.prepared) small (c.in-Ok.ensures.no_base work limit) (c.in-Ok.ensures.ready work limit fits.one fits.two) (c.in-Ok-do_steps.ensures.lock work) (c.switch.ensures.switches work))
-
 -- # A fall to come
 
 pub returns-in-Err-clause-falls_as : goal.returns-in-Err-clause-falls_as
@@ -106,3 +88,27 @@ pub returns-clause-fell : goal.returns-clause-fell
 returns-clause-fell g c work never =
     never_rose _ (g.W.Work.state c.write_resync.new.work).faults _ c.write_resync.ensures.calls.cause.later
     (rose_since _ (g.W.Work.state c.do_steps.new.work).faults _ (c.in-Err-switch.ensures.calls.cause.rose refl) c.do_steps.ensures.causes.later.work) never
+
+-- # The digest beside the base
+
+pub returns-in-Err-clause-digest_late : goal.returns-in-Err-clause-digest_late
+returns-in-Err-clause-digest_late g c work limit small fits base is = ⊎_elim inl (λ none. inr (inl none)) (c.write_resync.ensures.digest_late work limit base is)
+
+pub returns-in-Err-do_steps-clause-digest_late : goal.returns-in-Err-do_steps-clause-digest_late
+returns-in-Err-do_steps-clause-digest_late g c work limit small fits base is =
+    digest_past limit (next_base c.args.prepared) _ (g.W.Work.state c.args.work.now).folder (g.W.Work.state c.write_resync.new.work).folder (g.W.Work.state c.do_steps.new.work).folder base
+    (c.write_resync.ensures.digest_late work limit base is) (c.do_steps.ensures.lock work)
+
+pub returns-in-Ok-switch-clause-digest_late : goal.returns-in-Ok-switch-clause-digest_late
+returns-in-Ok-switch-clause-digest_late g c work limit small fits base is =
+    let md5 = λ (w : WorkFolder). w.filters_md5 in
+    inr (⊎_elim inl (λ next. inr (next, ap md5 (c.switch.ensures.switches work).rest ∙ ap md5 (c.in-Ok-do_steps.ensures.lock work).rest ∙ (c.in-Ok.ensures.rewritten work).stored))
+    (none_or_next limit (g.W.Work.state c.write_resync.new.work).folder (g.W.Work.state c.do_steps.new.work).folder (g.W.Work.state c.switch.new.work).folder
+    (next_base c.args.prepared) small (c.in-Ok.ensures.no_base work limit) (c.in-Ok.ensures.ready work limit fits.one fits.two) (c.in-Ok-do_steps.ensures.lock work) (c.switch.ensures.switches work)))
+
+pub returns-clause-digest_late : goal.returns-clause-digest_late
+returns-clause-digest_late g c work limit small fits base is =
+    let md5 = λ (w : WorkFolder). w.filters_md5 in
+    inr (⊎_elim inl (λ next. inr (next, ap md5 (c.switch.ensures.switches work).rest ∙ ap md5 (c.in-Ok-do_steps.ensures.lock work).rest ∙ (c.in-Ok.ensures.rewritten work).stored))
+    (none_or_next limit (g.W.Work.state c.write_resync.new.work).folder (g.W.Work.state c.do_steps.new.work).folder (g.W.Work.state c.switch.new.work).folder
+    (next_base c.args.prepared) small (c.in-Ok.ensures.no_base work limit) (c.in-Ok.ensures.ready work limit fits.one fits.two) (c.in-Ok-do_steps.ensures.lock work) (c.switch.ensures.switches work)))

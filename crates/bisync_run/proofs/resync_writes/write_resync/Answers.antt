@@ -1,7 +1,6 @@
-use Rattle.std.proofs.Common.{◌∙◌, ap, inl, inr}
-use Rattle.bisync_device.specs.WorkFolder.{WorkFolder}
+use Rattle.std.proofs.Common.{inl, inr}
 use Rattle.bisync_work.proofs.FallLaws.{fallen_none}
-use Rattle.bisync_run.proofs.ResyncWrites.{new_loses, fall_loses, loses_twice, none_past_digest}
+use Rattle.bisync_run.proofs.ResyncWrites.{new_loses, fall_loses, loses_twice, none_past_digest, new_keeps_digest, fall_keeps_digest}
 use Rattle.bisync_run.proofs.resync_writes.write_resync.Goals as goal
 
 pub returns-in_err-write_new-clause-loses : goal.returns-in_err-write_new-clause-loses
@@ -11,20 +10,20 @@ pub returns-in_err-fall-clause-loses : goal.returns-in_err-fall-clause-loses
 returns-in_err-fall-clause-loses g c = λ t. loses_twice (new_loses _ _ (c.write_new.ensures.rest t)) (fall_loses _ _ (c.fall.ensures.falls t))
 
 pub returns-in_err-write_new-clause-digest_late : goal.returns-in_err-write_new-clause-digest_late
-returns-in_err-write_new-clause-digest_late g c = λ t. inl (ap (λ (w : WorkFolder). w.filters_md5) (c.write_new.ensures.rest t))
+returns-in_err-write_new-clause-digest_late g c = λ t limit base is. inl (new_keeps_digest (g.W.Work.state c.args.work.now).folder (g.W.Work.state c.write_new.new.work).folder (c.write_new.ensures.rest t) limit base is)
 
 pub returns-in_err-fall-clause-digest_late : goal.returns-in_err-fall-clause-digest_late
-returns-in_err-fall-clause-digest_late g c = λ t. inl (ap (λ (w : WorkFolder). w.filters_md5) (c.fall.ensures.falls t).rest ∙ ap (λ (w : WorkFolder). w.filters_md5) (c.write_new.ensures.rest t))
+returns-in_err-fall-clause-digest_late g c = λ t. fall_keeps_digest (g.W.Work.state c.args.work.now).folder (g.W.Work.state c.write_new.new.work).folder (g.W.Work.state c.fall.new.work).folder (c.write_new.ensures.rest t) (c.fall.ensures.falls t)
 
 pub returns-in_default-clause-digest_late : goal.returns-in_default-clause-digest_late
-returns-in_default-clause-digest_late g c = λ t. inl (ap (λ (w : WorkFolder). w.filters_md5) (c.fall.ensures.falls t).rest ∙ ap (λ (w : WorkFolder). w.filters_md5) (c.write_new.ensures.rest t))
+returns-in_default-clause-digest_late g c = λ t. fall_keeps_digest (g.W.Work.state c.args.work.now).folder (g.W.Work.state c.write_new.new.work).folder (g.W.Work.state c.fall.new.work).folder (c.write_new.ensures.rest t) (c.fall.ensures.falls t)
 
 pub returns-in_err-store_digest-clause-digest_late : goal.returns-in_err-store_digest-clause-digest_late
-returns-in_err-store_digest-clause-digest_late g c = λ t.
-    inr (λ limit. none_past_digest (g.W.Work.state c.fall.new.work).folder (g.W.Work.state c.store_digest.new.work).folder limit
+returns-in_err-store_digest-clause-digest_late g c = λ t limit base is.
+    inr (none_past_digest (g.W.Work.state c.fall.new.work).folder (g.W.Work.state c.store_digest.new.work).folder limit
     (fallen_none limit (g.W.Work.state c.write_new.new.work).folder (g.W.Work.state c.fall.new.work).folder (c.in_ok-fall.ensures.fallen t)) (c.store_digest.ensures.others t))
 
 pub returns-clause-digest_late : goal.returns-clause-digest_late
-returns-clause-digest_late g c = λ t.
-    inr (λ limit. none_past_digest (g.W.Work.state c.fall.new.work).folder (g.W.Work.state c.store_digest.new.work).folder limit
+returns-clause-digest_late g c = λ t limit base is.
+    inr (none_past_digest (g.W.Work.state c.fall.new.work).folder (g.W.Work.state c.store_digest.new.work).folder limit
     (fallen_none limit (g.W.Work.state c.write_new.new.work).folder (g.W.Work.state c.fall.new.work).folder (c.in_ok-fall.ensures.fallen t)) (c.store_digest.ensures.others t))

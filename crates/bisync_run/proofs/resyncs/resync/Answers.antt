@@ -212,7 +212,7 @@ returns-clause-folder_base g c work =
 pub returns-in-Ok-carry_out-clause-digest_late : goal.returns-in-Ok-carry_out-clause-digest_late
 returns-in-Ok-carry_out-clause-digest_late g c work =
     let fits = are_within c.args.limits.now c.in-Ok.prepared c.in-Ok.ensures.within1 c.in-Ok.ensures.within2 in
-    late_held c.args.limits.now _ (g.W.Work.state c.args.work.now).folder (g.W.Work.state c.look_resync.new.work).folder (c.in-Ok.ensures.folder work) c.in-Ok.prepared c.in-Ok.ensures.compare (c.in-Ok.ensures.new_stamp work) (g.W.Work.state c.carry_out.new.work).folder
+    late_held c.args.limits.now _ c.args.entered.now.digest (g.W.Work.state c.args.work.now).folder (g.W.Work.state c.look_resync.new.work).folder (c.in-Ok.ensures.folder work) c.in-Ok.prepared c.in-Ok.ensures.compare (c.in-Ok.ensures.new_stamp work) (g.W.Work.state c.carry_out.new.work).folder
     (c.in-Ok-carry_out.ensures.digest_late work c.args.limits.now.listing (omega arith) fits)
 
 pub returns-clause-own_lock : goal.returns-clause-own_lock
@@ -222,7 +222,7 @@ returns-clause-own_lock g c work =
 pub returns-clause-digest_late : goal.returns-clause-digest_late
 returns-clause-digest_late g c work =
     let fits = are_within c.args.limits.now c.in-Ok.prepared c.in-Ok.ensures.within1 c.in-Ok.ensures.within2 in
-    late_held c.args.limits.now _ (g.W.Work.state c.args.work.now).folder (g.W.Work.state c.look_resync.new.work).folder (c.in-Ok.ensures.folder work) c.in-Ok.prepared c.in-Ok.ensures.compare (c.in-Ok.ensures.new_stamp work) (g.W.Work.state c.carry_out.new.work).folder
+    late_held c.args.limits.now _ c.args.entered.now.digest (g.W.Work.state c.args.work.now).folder (g.W.Work.state c.look_resync.new.work).folder (c.in-Ok.ensures.folder work) c.in-Ok.prepared c.in-Ok.ensures.compare (c.in-Ok.ensures.new_stamp work) (g.W.Work.state c.carry_out.new.work).folder
     (c.in-Err-carry_out.ensures.digest_late work c.args.limits.now.listing (omega arith) fits)
 
 -- # What both sides alone tell

@@ -264,8 +264,9 @@ returns-clause-run_report g c none one two work sink never =
     (c.run_to_close-end.ensures.run_report none one two work sink) (c.tell_end.ensures.bytes sink still))
 
 pub returns-clause-only_base : goal.returns-clause-only_base
-returns-clause-only_base g c none only work stays =
-    c.run_to_close-end.ensures.only_base none only work (unfallen_told c.args.opts.now.resilient c.args.opts.now.dry_run c.run_to_close-end.result c.tell_end.result c.tell_end.ensures.end stays)
+returns-clause-only_base g c none only work =
+    let base = c.run_to_close-end.ensures.only_base none only work in
+    (base.0, λ stays. base.1 (unfallen_told c.args.opts.now.resilient c.args.opts.now.dry_run c.run_to_close-end.result c.tell_end.result c.tell_end.ensures.end stays))
 
 pub returns-clause-fell : goal.returns-clause-fell
 returns-clause-fell g c work fell never =
@@ -327,7 +328,7 @@ returns-clause-resync_in_sync g c mode is one two work dry good =
 
 pub returns-clause-own_lock : goal.returns-clause-own_lock
 returns-clause-own_lock g c work =
-    own_lock_told _ _ _ c.run_to_close-end.result c.tell_end.result _ _ (before_told c.run_to_close-end.result c.tell_end.result c.tell_end.ensures.end) (c.run_to_close-end.ensures.own_lock work)
+    own_lock_told c.args.opts.now _ _ _ c.run_to_close-end.result c.tell_end.result _ _ (before_told c.run_to_close-end.result c.tell_end.result c.tell_end.ensures.end) (c.run_to_close-end.ensures.own_lock work)
 
 pub returns-clause-unlocked : goal.returns-clause-unlocked
 returns-clause-unlocked g c work un =
