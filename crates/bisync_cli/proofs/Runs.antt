@@ -11,11 +11,13 @@ use Rattle.bisync_report.specs.declared.ends.End.TheVariants.{Done, Resynced, Dr
 use Rattle.bisync_run.specs.Counts.{Counts, Ends}
 use Rattle.bisync_run.specs.EndKinds.{is_before_lock}
 use Rattle.bisync_run.specs.FolderBases.{LeavesFolderBase}
-use Rattle.bisync_run.specs.LeftNames.{LeavesOwnLock}
+use Rattle.bisync_run.specs.KeptNames.{KeepsGoodNames}
+use Rattle.bisync_run.specs.LeftNames.{LeavesOwnLock, MayBeLeft}
 use Rattle.bisync_run.specs.OrdinaryRuns.{KeepsOrdinaryBaseOf, KeepsSafe, LeavesOrdinaryBaseOf}
 use Rattle.bisync_run.specs.ResyncRuns.{LeavesBaseOf}
 use Rattle.bisync_run.specs.Untouched.{Remotes}
 use Rattle.bisync_run.proofs.DoneSteps.{untouched_same}
+use Rattle.bisync_run.proofs.GoodNames.{good_left}
 use Rattle.bisync_run.proofs.SafeRuns.{keeps_safe}
 use Rattle.bisync_run.proofs.ToldEnds.{images, image_keeps}
 use Rattle.bisync_cli.specs.declared.tasks.Task.{Task}
@@ -57,6 +59,13 @@ pub folder_images_same : (read : Result Task UsageKind) (Works : Type 0) (limits
 folder_images_same (Ok (Run opts)) Works limits f start end = λ work settled image image_is base was. inl ((image_keeps limits.listing f image settled image_is).base base was)
 folder_images_same (Ok NoTask) Works limits f start end = tt
 folder_images_same (Err kind) Works limits f start end = tt
+
+-- names of a base that have listings, or nothing, still do
+pub good_names_same : (read : Result Task UsageKind) (Works : Type 0) (limits : Limits) (f : WorkFolder)
+    → OfTask read (λ opts. opts.resync ≡ None → Works → (left : WorkFolder) → MayBeLeft f f left → KeepsGoodNames limits f left)
+good_names_same (Ok (Run opts)) Works limits f = λ none work left may. good_left limits f f left (λ good. good) (λ settled. settled) may
+good_names_same (Ok NoTask) Works limits f = tt
+good_names_same (Err kind) Works limits f = tt
 
 -- what is safe in an untouched folder is safe in its images
 pub safe_same : (read : Result Task UsageKind) (One Two Works : Type 0) (limits : Limits) → limits.listing < 2 ^ 64 → (f : WorkFolder) (start : Remotes)

@@ -1,17 +1,10 @@
 //! The top call.
 
 ghost use Rattle.std.specs.Prelude.{◌≡◌, ◌≢◌, ◌⊎◌, ◌+◌, ◌++◌, ◌||◌, ℕ, List, Option, IsTrue, None, Some, true, false};
-ghost use Rattle.bisync_tree.specs.Rows.{PathBytes};
-ghost use Rattle.bisync_tree.specs.declared.entries.Entry.{Entry};
-ghost use Rattle.bisync_model.specs.Trees.{by_side};
-ghost use Rattle.bisync_device.specs.Remote.{KeepsTree};
-ghost use Rattle.bisync_device.specs.WorkFolder.{Absent, WorkFolder, IsSettled, IsImage};
-ghost use Rattle.bisync_work.specs.Locks.{ChangesLock, IsFree, KeepsBlocking};
-ghost use Rattle.bisync_work.specs.Moves.{IsFallen};
 ghost use Rattle.bisync_report.specs.LastLine.{last_text};
 ghost use Rattle.bisync_report.specs.Status.{status_of};
 ghost use Rattle.bisync_report.specs.declared.ends.End.TheVariants.{Done, OutOfSync, Resynced};
-ghost use Rattle.bisync_cli.specs.RunPromises.{AnswersBeginningOf, AnswersOrdinaryRun, AnswersRun, AreSetAsideBy, AtMoment, but_fallen_or_lock, but_run, compare_in, compared, counts, Ends, has_freed, HasGrounds, HasNoListings, HasNoRefusal, HasNumbers, HasOrdinaryNumbers, HasOutcomeOf, HasSomeRules, is_after_good, is_before_lock, is_good, is_unlocked, IsDoneBy, IsEntryEnd, IsHeldBack, IsOrdinaryEnd, IsResyncedBy, IsResyncEnd, IsTold, IsUnrefused, IsWellBegunOf, KeepsButFallen, KeepsLockNew, KeepsOrdinaryBaseOf, KeepsOrdinaryRest, KeepsSafe, KnowsRules, Later, LeavesBaseOf, LeavesBaseSetBack, LeavesFolderBase, LeavesInSync, LeavesLock, LeavesMixOf, LeavesNextInPlace, LeavesOrdinaryBaseOf, LeavesOrdinaryTreesOf, LeavesOwnLock, LeavesResyncInSync, LeavesTreesOf, lets_fall, may_have_changed, may_tell_plan, MayBeLeft, StaysOrFell, StoresDigestOf, TellsOrdinaryRun, TellsRun, WasApartBefore, Writes};
+ghost use Rattle.bisync_run.specs.Promises.{Absent, AnswersBeginningOf, AnswersOrdinaryRun, AnswersRun, AreSetAsideBy, AtMoment, but_fallen_or_lock, but_run, by_side, ChangesLock, compare_in, compared, counts, Ends, Entry, has_freed, HasGrounds, HasNoListings, HasNoRefusal, HasNumbers, HasOrdinaryNumbers, HasOutcomeOf, HasSomeRules, is_after_good, is_before_lock, is_good, is_unlocked, IsDoneBy, IsEntryEnd, IsFallen, IsFree, IsHeldBack, IsImage, IsOrdinaryEnd, IsResyncedBy, IsResyncEnd, IsSettled, IsTold, IsUnrefused, IsWellBegunOf, KeepsBlocking, KeepsButFallen, KeepsGoodNames, KeepsLockNew, KeepsOrdinaryBaseOf, KeepsOrdinaryRest, KeepsSafe, KeepsTree, KnowsRules, Later, LeavesBaseOf, LeavesBaseSetBack, LeavesFolderBase, LeavesInSync, LeavesLock, LeavesMixOf, LeavesNextInPlace, LeavesOrdinaryBaseOf, LeavesOrdinaryTreesOf, LeavesOwnLock, LeavesResyncInSync, LeavesTreesOf, lets_fall, may_have_changed, may_tell_plan, MayBeLeft, PathBytes, StaysOrFell, StoresDigestOf, TellsOrdinaryRun, TellsRun, WasApartBefore, WorkFolder, Writes};
 ghost use Rattle.bisync_cli.specs.Tasks.{AfterGood, AllTell, OfOrdinary, OfResync, OfRun, Stood, task_in, asks_run, is_resilient};
 ghost use Rattle.bisync_cli.specs.Ends.{EndsBy};
 
@@ -74,6 +67,7 @@ pub fn bisync_main<A: Folders, B: Folders, K: Remote, L: Remote, W: Work, C: Clo
     ensures resilient_base { OfOrdinary words.now (λ opts. AllTell A.tells B.tells W.tells ((opts.resilient || opts.dry_run) ≡ true → KeepsOrdinaryBaseOf opts Limits.REAL (W.state work.old).folder (by_side (A.state one.old) (B.state two.old)) (W.state work.new).folder (by_side (A.state one.new) (B.state two.new)))) }
     ensures run_trees { OfOrdinary words.now (λ opts. AllTell A.tells B.tells W.tells (LeavesOrdinaryTreesOf opts Limits.REAL (W.state work.old).folder (by_side (A.state one.old) (B.state two.old)) C.tells (C.moment clock.old) (by_side (A.state one.new) (B.state two.new)))) }
     ensures set_back { OfOrdinary words.now (λ opts. AllTell A.tells B.tells W.tells ((h : WorkFolder) → MayBeLeft (W.state work.old).folder (W.state work.new).folder h → LeavesBaseSetBack Limits.REAL (compared opts (by_side (A.state one.old) (B.state two.old))) (W.state work.old).folder (by_side (A.state one.old) (B.state two.old)) h (by_side (A.state one.new) (B.state two.new)))) }
+    ensures good_names { OfOrdinary words.now (λ opts. IsTrue W.tells → (h : WorkFolder) → MayBeLeft (W.state work.old).folder (W.state work.new).folder h → KeepsGoodNames Limits.REAL (W.state work.old).folder h) }
     ensures run_rest { OfOrdinary words.now (λ opts. IsTrue W.tells → KeepsOrdinaryRest (lets_fall opts.resilient opts.dry_run result.end) (W.state work.old).folder (W.state work.new).folder) }
     ensures only_run { OfOrdinary words.now (λ opts. IsOrdinaryEnd opts (compare_in opts.compare (A.state one.old).window (B.state two.old).window) result.end) }
     ensures run_images { OfOrdinary words.now (λ opts. AllTell A.tells B.tells W.tells (IsSettled (W.state work.old).folder → (h : WorkFolder) → IsImage (W.state work.new).folder h → LeavesOrdinaryBaseOf opts Limits.REAL (W.state work.old).folder (by_side (A.state one.old) (B.state two.old)) h (by_side (A.state one.new) (B.state two.new)))) }
@@ -118,8 +112,8 @@ pub fn bisync_main<A: Folders, B: Folders, K: Remote, L: Remote, W: Work, C: Clo
     ensures quiet { IsTrue S.tells → Stood (S.state sink.old).faults (S.state sink.new).faults → may_tell_plan result.end ≡ false → (S.state sink.new).bytes ≡ (S.state sink.old).bytes ++ last_text result.end }
     ensures only_quiet { OfOrdinary words.now (λ opts. opts.check_sync ≡ CheckSync.Only → IsTrue S.tells → Stood (S.state sink.old).faults (S.state sink.new).faults → (S.state sink.new).bytes ≡ (S.state sink.old).bytes ++ last_text result.end) }
     ensures lines { IsTrue S.tells → Stood (S.state sink.old).faults (S.state sink.new).faults → (lines : List ℕ) × ((S.state sink.new).bytes ≡ ((S.state sink.old).bytes ++ lines) ++ last_text result.end) }
-    ensures report { OfResync words.now (λ opts mode. IsTrue A.tells → IsTrue B.tells → IsTrue S.tells → KnowsRules W.tells opts.filters → Stood (S.state sink.old).faults (S.state sink.new).faults → TellsRun mode opts (W.state work.old).folder (by_side (A.state one.old) (B.state two.old)) (by_side (A.state one.new) (B.state two.new)) (S.state sink.old).bytes (last_text result.end) (S.state sink.new).bytes result.end) }
-    ensures run_report { OfOrdinary words.now (λ opts. AllTell A.tells B.tells W.tells (IsTrue S.tells → Stood (S.state sink.old).faults (S.state sink.new).faults → TellsOrdinaryRun opts Limits.REAL (W.state work.old).folder (by_side (A.state one.old) (B.state two.old)) (by_side (A.state one.new) (B.state two.new)) (S.state sink.old).bytes (last_text result.end) (S.state sink.new).bytes result.end)) }
+    ensures report { OfResync words.now (λ opts mode. IsTrue A.tells → IsTrue B.tells → IsTrue S.tells → KnowsRules W.tells opts.filters → Stood (S.state sink.old).faults (S.state sink.new).faults → TellsRun mode opts W.tells (W.state work.old).folder (by_side (A.state one.old) (B.state two.old)) (W.state work.new).folder (by_side (A.state one.new) (B.state two.new)) (S.state sink.old).bytes (last_text result.end) (S.state sink.new).bytes result.end) }
+    ensures run_report { OfOrdinary words.now (λ opts. AllTell A.tells B.tells W.tells (IsTrue S.tells → Stood (S.state sink.old).faults (S.state sink.new).faults → TellsOrdinaryRun opts Limits.REAL (W.state work.old).folder (by_side (A.state one.old) (B.state two.old)) (W.state work.new).folder (by_side (A.state one.new) (B.state two.new)) (S.state sink.old).bytes (last_text result.end) (S.state sink.new).bytes result.end)) }
 {
     let opts = match read_task(alloc, words) {
         Ok(Task::Run(opts)) => opts,

@@ -35,7 +35,8 @@ module _ (mode : Prefer) (limits : Limits) (f g : WorkFolder) (changes : Changes
   answers_before (NeedResync need) x = absurd x
   answers_before (ListingsDiffer path one two) x = absurd x
   answers_before (EmptyPrior side) x = absurd x
-  answers_before (RemoteFault side) x = tt
+  answers_before (RemoteFault One) x = tt
+  answers_before (RemoteFault Two) x = x
   answers_before (BadPath side text) x = absurd x
   answers_before (TooMany One files bytes) x = x
   answers_before (TooMany Two files bytes) x = x

@@ -12,9 +12,11 @@ use Rattle.bisync_work.specs.Moves.{SameListings, Switches}
 use Rattle.bisync_work.specs.Stamps.{IsNewStamp}
 use Rattle.bisync_work.proofs.BaseLaws.{base_is_one, same_in_pair, same_keeps}
 use Rattle.bisync_opts.specs.declared.options.Opts.{Opts}
+use Rattle.bisync_report.specs.declared.ends.End.{End}
 use Rattle.bisync_run.specs.CarryingOut.{AreWithin}
 use Rattle.bisync_run.specs.Closing.{Closes}
 use Rattle.bisync_run.specs.FolderBases.{IsNextOf, TakesNext, compared}
+use Rattle.bisync_run.specs.KeptNames.{IsSideEnd, StandsSetBack}
 use Rattle.bisync_run.specs.LeftNames.{LeavesBaseSetBack, MayBeLeft, StoresDigest, StoresDigestOf}
 use Rattle.bisync_run.specs.OrdinaryChanges.{IsPrepared, IsSetBack}
 use Rattle.bisync_run.specs.ResyncRuns.{Matter}
@@ -62,6 +64,15 @@ pub ordinary_set_back : (opts : Opts) (limits : Limits) (compare : Compare) (dig
 ordinary_set_back opts limits compare digest f f2 same started start made fields small fits before mid now g looked left =
     set_back_held limits compare f before mid now g small looked (prepared_of started.stamp made) (next_of limits compare f (prepared_of started.stamp made) fields start.new) start.base
     (started.pair, start.starts.is) (left limits.listing start.base (ready_to opts limits compare digest f f2 same started start made fields small fits))
+
+-- where it was set back before a side failed
+pub ordinary_stands : (opts : Opts) (limits : Limits) (compare : Compare) (digest : Option (List ℕ)) (f f2 : WorkFolder) (same : f2 ≡ f) (started : Started) (start : IsStartOf opts limits f digest started)
+    (made : Look) (fields : made.compare ≡ compare) → limits.listing < 2 ^ 64 → AreWithin limits.listing (prepared_of started.stamp made) → (end : End) (g : WorkFolder)
+    → ((limit : ℕ) (base : Base) → IsPrepared limit f2 started.pair base (prepared_of started.stamp made) → IsSideEnd end → HasBaseIn limit g Old base)
+    → StandsSetBack limits end f g
+ordinary_stands opts limits compare digest f f2 same started start made fields small fits end g left side other has =
+    let one : start.base ≡ other = ap (λ (o : Option Base). unwrap_or o start.base) (base_is_one limits.listing f small (Some start.base) (Some other) (started.pair, start.starts.is) has) in
+    inl (subst (HasBaseIn limits.listing g Old) one (left limits.listing start.base (ready_to opts limits compare digest f f2 same started start made fields small fits) side))
 
 -- # The digest of a resync
 
@@ -128,7 +139,7 @@ module _ (limits : Limits) (compare : Compare) (f f2 g h : WorkFolder) (changes 
 
 -- # What is left, or an image of it
 
-same_image : (g left : WorkFolder) → IsSettled g → IsImage g left → SameListings g left
+pub same_image : (g left : WorkFolder) → IsSettled g → IsImage g left → SameListings g left
 same_image g left settled image = let r = image-settled g left settled image in record { one = r.one; two = r.two; one_old = r.one_old; two_old = r.two_old }
 
 pub set_back_left : (limits : Limits) (compare : Compare) (f : WorkFolder) (start : Remotes) (g : WorkFolder) (now : Remotes) (left : WorkFolder)

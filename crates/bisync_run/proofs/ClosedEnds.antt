@@ -1,5 +1,5 @@
 -- What is known of the end that a held course has when it is closed.
-use Rattle.std.proofs.Common.{◌≡◌, ◌∙◌, ◌&&◌, ◌||◌, ◌++◌, [], ap, subst, sym, refl, inl, inr, Bool, true, false, not, List, ℕ, Result, Ok, Err, OnOk}
+use Rattle.std.proofs.Common.{◌≡◌, ◌∙◌, ◌&&◌, ◌||◌, ◌++◌, [], ap, subst, sym, refl, inl, inr, Bool, IsTrue, true, false, not, List, ℕ, Result, Ok, Err, OnOk}
 use Rattle.std.specs.Prelude.{IfOk, IfErr, IsOk}
 use Rattle.std.proofs.lemmas.List.{append-nil}
 use Rattle.bisync_tree.specs.declared.options.Limits.{Limits}
@@ -11,13 +11,14 @@ use Rattle.bisync_report.specs.declared.ends.End.{End}
 use Rattle.bisync_work.specs.Locks.{ChangesLock}
 use Rattle.bisync_run.specs.Closing.{ClosesWith, Unlocks}
 use Rattle.bisync_run.specs.Counts.{Counts, Stops}
-use Rattle.bisync_run.specs.EndKinds.{is_good, is_after_good, is_sink_fault, may_have_changed, may_tell_plan, falls_at_close}
+use Rattle.bisync_run.specs.EndKinds.{is_good, is_after_good, is_sink_fault, lets_fall, may_have_changed, may_tell_plan, falls_at_close}
 use Rattle.bisync_run.specs.HeldResyncs.{end_of, IsGoodEndOf, TellsPlan}
+use Rattle.bisync_run.specs.KeptNames.{KeepsButFallen}
 use Rattle.bisync_run.specs.ResyncRefusals.{AnswersResync, HasNoResyncRefusal}
 use Rattle.bisync_run.specs.ResyncRuns.{Matter, sides_in, TellsRun}
 use Rattle.bisync_run.specs.Resyncs.{resync_lines}
 use Rattle.bisync_run.specs.Sides.{Sides}
-use Rattle.bisync_run.specs.Untouched.{Remotes}
+use Rattle.bisync_run.specs.Untouched.{AreUntouched, Remotes}
 use Rattle.bisync_run.proofs.EndCases.{good_answers, false_true}
 use Rattle.bisync_run.proofs.EndLaws.{stops_not_good, stops_not_after_good}
 
@@ -77,26 +78,32 @@ or_first a b is = ap (λ (x : Bool). x || b) is
 
 -- # What was told
 
-module _ (mode : Prefer) (opts : Opts) (f : WorkFolder) (start now : Remotes) (m : Matter opts f start) (before after : List ℕ) where
+module _ (mode : Prefer) (opts : Opts) (tells : Bool) (f h : WorkFolder) (start now : Remotes) (m : Matter opts f start) (IsKept : Type 0) (before after : List ℕ) where
   told : after ≡ before ++ resync_lines mode (sides_in m) → after ≡ (before ++ resync_lines mode (sides_in m)) ++ []
   told lines = lines ∙ sym (append-nil (before ++ resync_lines mode (sides_in m)))
 
   pub tells_closed : (old new : Counts) (ended : Result End End) (closed : End) → IfOk ended (λ end. is_good end ≡ true) → IfErr ended (Stops old new) → ClosesWith ended closed
-      → TellsPlan mode (sides_in m) start now before after ended → TellsRun mode opts f start now before [] after closed
-  tells_closed old new (Ok end) closed well stops (inl same) lines =
+      → (IsKept → IsTrue tells → KeepsButFallen (lets_fall opts.resilient opts.dry_run closed) f h) → TellsPlan mode (sides_in m) start now IsKept before after ended
+      → TellsRun mode opts tells f start h now before [] after closed
+  tells_closed old new (Ok end) closed well stops (inl same) early lines =
       inr (inr (ap may_tell_plan same ∙ or_true (may_have_changed end) (is_good end) well, (m, told lines)))
-  tells_closed old new (Ok end) closed well stops (inr stays) lines = inr (inr (ap may_tell_plan stays, (m, told lines)))
-  tells_closed old new (Err end) closed well stops same (inl failed) = inl (ap is_sink_fault same ∙ failed)
-  tells_closed old new (Err end) closed well stops same (inr (inl (quiet, untouched))) =
-      inr (inl (ap is_after_good same ∙ bool_cases (is_after_good end) (stops_not_after_good old new end stops), quiet ∙ sym (append-nil before), untouched))
-  tells_closed old new (Err end) closed well stops same (inr (inr (may, lines))) =
+  tells_closed old new (Ok end) closed well stops (inr stays) early lines = inr (inr (ap may_tell_plan stays, (m, told lines)))
+  tells_closed old new (Err end) closed well stops same early (inl failed) = inl (ap is_sink_fault same ∙ failed)
+  tells_closed old new (Err end) closed well stops same early (inr (inl (quiet, untouched, kept))) =
+      inr (inl (ap is_after_good same ∙ bool_cases (is_after_good end) (stops_not_after_good old new end stops), quiet ∙ sym (append-nil before), untouched, early kept))
+  tells_closed old new (Err end) closed well stops same early (inr (inr (may, lines))) =
       inr (inr (ap may_tell_plan same ∙ or_first (may_have_changed end) (is_good end) may, (m, told lines)))
 
+-- a run that didn't get the lock told nothing
+pub tells_unlocked : (mode : Prefer) (opts : Opts) (tells : Bool) (f : WorkFolder) (start : Remotes) (g : WorkFolder) (before : List ℕ) (end : End) → (is_after_good end ≡ true → ⊥) → AreUntouched start start
+    → (IsTrue tells → KeepsButFallen (lets_fall opts.resilient opts.dry_run end) f g) → TellsRun mode opts tells f start g start before [] before end
+tells_unlocked mode opts tells f start g before end never untouched kept = inr (inl (bool_cases (is_after_good end) never, sym (append-nil before), untouched, kept))
+
 -- the last line stands behind what was told before it
-pub tells_last : (mode : Prefer) (opts : Opts) (f : WorkFolder) (start now : Remotes) (before mid after last : List ℕ) (end : End)
-    → TellsRun mode opts f start now before [] mid end → after ≡ mid ++ last → TellsRun mode opts f start now before last after end
-tells_last mode opts f start now before mid after last end (inl failed) added = inl failed
-tells_last mode opts f start now before mid after last end (inr (inl (bad, quiet, untouched))) added =
-    inr (inl (bad, added ∙ ap (λ (l : List ℕ). l ++ last) (quiet ∙ append-nil before), untouched))
-tells_last mode opts f start now before mid after last end (inr (inr (may, (m, lines)))) added =
+pub tells_last : (mode : Prefer) (opts : Opts) (tells : Bool) (f : WorkFolder) (start : Remotes) (g : WorkFolder) (now : Remotes) (before mid after last : List ℕ) (end : End)
+    → TellsRun mode opts tells f start g now before [] mid end → after ≡ mid ++ last → TellsRun mode opts tells f start g now before last after end
+tells_last mode opts tells f start g now before mid after last end (inl failed) added = inl failed
+tells_last mode opts tells f start g now before mid after last end (inr (inl (bad, quiet, untouched, kept))) added =
+    inr (inl (bad, added ∙ ap (λ (l : List ℕ). l ++ last) (quiet ∙ append-nil before), untouched, kept))
+tells_last mode opts tells f start g now before mid after last end (inr (inr (may, (m, lines)))) added =
     inr (inr (may, (m, added ∙ ap (λ (l : List ℕ). l ++ last) (lines ∙ append-nil (before ++ resync_lines mode (sides_in m))))))

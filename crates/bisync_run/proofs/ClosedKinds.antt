@@ -16,9 +16,11 @@ use Rattle.bisync_run.specs.Counts.{Counts, Stops}
 use Rattle.bisync_run.specs.EndKinds.{is_good, is_after_good, has_freed, is_before_lock, is_unlocked, lets_fall, falls_at_close, may_have_changed, may_tell_plan}
 use Rattle.bisync_run.specs.FilterRules.{AreRulesOf}
 use Rattle.bisync_run.specs.HeldResyncs.{end_of}
+use Rattle.bisync_run.specs.KeptNames.{KeepsButFallen}
 use Rattle.bisync_run.specs.LockNew.{KeepsLockNew}
 use Rattle.bisync_run.specs.ResyncEnds.{IsResyncEnd}
 use Rattle.bisync_run.specs.ResyncRuns.{AreSetAsideBy}
+use Rattle.bisync_run.proofs.ClosedEnds.{changes_closed}
 use Rattle.bisync_run.proofs.EndCases.{false_true}
 use Rattle.bisync_run.proofs.EndKindLaws.{good_stays, good_has_freed, freed_is_after_good}
 use Rattle.bisync_run.proofs.EndLaws.{rose_within, le_same, stops_not_after_good}
@@ -77,6 +79,15 @@ fallen_same f g changes = ap but_fallen changes.rest
 pub fallen_closed : (f f2 g h : WorkFolder) → ChangesLock f f2 → g ≡ f2 → Closes g h → but_fallen_or_lock h ≡ but_fallen_or_lock f
 fallen_closed f f2 g h changes same closes =
     ap (λ (w : WorkFolder). record w { lock_new = Absent }) closes.rest ∙ ap but_fallen_or_lock same ∙ fallen_same f f2 changes
+
+-- where nothing but the lock changed before the close
+pub kept_early : (resilient dry_run : Bool) (ended : Result End End) (closed : End) → ClosesWith ended closed → (f f2 g h : WorkFolder) → ChangesLock f f2 → Closes g h
+    → (falls_at_close resilient dry_run ended ≡ false → Unlocks g h) → g ≡ f2 → KeepsButFallen (lets_fall resilient dry_run closed) f h
+kept_early resilient dry_run ended closed is f f2 g h changes closes kept same =
+    (fallen_closed f f2 g h changes same closes, λ stays. changes_closed f f2 g h changes same (kept (falls_closed resilient dry_run ended closed is stays)))
+
+pub kept_unlocked : (falls : Bool) (f g : WorkFolder) → ChangesLock f g → KeepsButFallen falls f g
+kept_unlocked falls f g changes = (fallen_same f g changes, λ stays. changes)
 
 pub lock_new_closed : (g h : WorkFolder) → Closes g h → KeepsLockNew g h
 lock_new_closed g h closes = record { kept = inl (ap (λ (w : WorkFolder). w.lock_new) closes.rest) }

@@ -111,7 +111,8 @@ module _ (opts : Opts) (limits : Limits) (f g : WorkFolder) (changes : ChangesLo
 
     pub run_answers_before : (end : End) → AnswersOrdinary opts limits g s digest end → AnswersOrdinary opts limits f s digest end
     run_answers_before WorkFault x = tt
-    run_answers_before (RemoteFault side) x = tt
+    run_answers_before (RemoteFault One) x = tt
+    run_answers_before (RemoteFault Two) x = x
     run_answers_before OutOfMemory x = tt
     run_answers_before (SinkFault false) x = course_before x
     run_answers_before (SinkFault true) x = unrefused_before x

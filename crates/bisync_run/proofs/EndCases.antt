@@ -11,7 +11,7 @@ use Rattle.bisync_report.specs.declared.ends.End.TheVariants.{Done, Resynced, Dr
 use Rattle.bisync_run.specs.EndKinds.{is_good, is_after_good, may_have_changed}
 use Rattle.bisync_run.specs.HeldResyncs.{IsGoodEndOf}
 use Rattle.bisync_run.specs.ResyncRefusals.{AnswersResync, HasNoResyncRefusal}
-use Rattle.bisync_run.specs.Sides.{Sides}
+use Rattle.bisync_run.specs.Sides.{Sides, IsListable}
 use Rattle.bisync_run.specs.Stepping.{FindsTold, IsStepEnd, IsDeviceFault}
 
 abbrev IsFalse : Bool → Type 0
@@ -21,40 +21,41 @@ IsFalse true = ⊥
 pub false_true : {P : Type 0} → false ≡ true → P
 false_true e = absurd (subst IsFalse e tt)
 
-pub device_answers : (mode : Prefer) (limits : Limits) (f : WorkFolder) (s : Sides) (end : End) → IsDeviceFault end → AnswersResync mode limits f s end
-device_answers mode limits f s (Done one two) x = absurd x
-device_answers mode limits f s (Resynced one two) x = absurd x
-device_answers mode limits f s DryRun x = absurd x
-device_answers mode limits f s InSync x = absurd x
-device_answers mode limits f s Demo x = absurd x
-device_answers mode limits f s (Usage kind) x = absurd x
-device_answers mode limits f s WorkFault x = tt
-device_answers mode limits f s NoFilters x = absurd x
-device_answers mode limits f s (BadRule line) x = absurd x
-device_answers mode limits f s (Locked until) x = absurd x
-device_answers mode limits f s (FiltersChanged now stored) x = absurd x
-device_answers mode limits f s (BadListing name line) x = absurd x
-device_answers mode limits f s (NeedResync need) x = absurd x
-device_answers mode limits f s (ListingsDiffer path one two) x = absurd x
-device_answers mode limits f s (EmptyPrior side) x = absurd x
-device_answers mode limits f s (RemoteFault side) x = tt
-device_answers mode limits f s (BadPath side text) x = absurd x
-device_answers mode limits f s (TooMany side files bytes) x = absurd x
-device_answers mode limits f s (CheckAccess side path) x = absurd x
-device_answers mode limits f s (EmptyCurrent side) x = absurd x
-device_answers mode limits f s (TooManyDeletes side gone all) x = absurd x
-device_answers mode limits f s (AllChanged side all) x = absurd x
-device_answers mode limits f s (NameTooLong side path) x = absurd x
-device_answers mode limits f s (ListingTooLong side bytes) x = absurd x
-device_answers mode limits f s (OutOfSync path one two) x = absurd x
-device_answers mode limits f s (Moved side path listed read) x = absurd x
-device_answers mode limits f s (SinkFault done) x = absurd x
-device_answers mode limits f s LockLeft x = absurd x
-device_answers mode limits f s (FoldersLeft cause) x = absurd x
-device_answers mode limits f s (KeepFault side) x = absurd x
-device_answers mode limits f s (Checked differ) x = absurd x
-device_answers mode limits f s NotBuilt x = absurd x
-device_answers mode limits f s OutOfMemory x = absurd x
+pub device_answers : (mode : Prefer) (limits : Limits) (f : WorkFolder) (s : Sides) → IsListable limits s.one → (end : End) → IsDeviceFault end → AnswersResync mode limits f s end
+device_answers mode limits f s first (Done one two) x = absurd x
+device_answers mode limits f s first (Resynced one two) x = absurd x
+device_answers mode limits f s first DryRun x = absurd x
+device_answers mode limits f s first InSync x = absurd x
+device_answers mode limits f s first Demo x = absurd x
+device_answers mode limits f s first (Usage kind) x = absurd x
+device_answers mode limits f s first WorkFault x = tt
+device_answers mode limits f s first NoFilters x = absurd x
+device_answers mode limits f s first (BadRule line) x = absurd x
+device_answers mode limits f s first (Locked until) x = absurd x
+device_answers mode limits f s first (FiltersChanged now stored) x = absurd x
+device_answers mode limits f s first (BadListing name line) x = absurd x
+device_answers mode limits f s first (NeedResync need) x = absurd x
+device_answers mode limits f s first (ListingsDiffer path one two) x = absurd x
+device_answers mode limits f s first (EmptyPrior side) x = absurd x
+device_answers mode limits f s first (RemoteFault One) x = tt
+device_answers mode limits f s first (RemoteFault Two) x = first
+device_answers mode limits f s first (BadPath side text) x = absurd x
+device_answers mode limits f s first (TooMany side files bytes) x = absurd x
+device_answers mode limits f s first (CheckAccess side path) x = absurd x
+device_answers mode limits f s first (EmptyCurrent side) x = absurd x
+device_answers mode limits f s first (TooManyDeletes side gone all) x = absurd x
+device_answers mode limits f s first (AllChanged side all) x = absurd x
+device_answers mode limits f s first (NameTooLong side path) x = absurd x
+device_answers mode limits f s first (ListingTooLong side bytes) x = absurd x
+device_answers mode limits f s first (OutOfSync path one two) x = absurd x
+device_answers mode limits f s first (Moved side path listed read) x = absurd x
+device_answers mode limits f s first (SinkFault done) x = absurd x
+device_answers mode limits f s first LockLeft x = absurd x
+device_answers mode limits f s first (FoldersLeft cause) x = absurd x
+device_answers mode limits f s first (KeepFault side) x = absurd x
+device_answers mode limits f s first (Checked differ) x = absurd x
+device_answers mode limits f s first NotBuilt x = absurd x
+device_answers mode limits f s first OutOfMemory x = absurd x
 
 -- where both sides tell, a call failed
 pub told_device : (tells : Side → Bool) → IsTrue (tells One) → IsTrue (tells Two) → (end : End) → IsStepEnd end → FindsTold tells end → IsDeviceFault end

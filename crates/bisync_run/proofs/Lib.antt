@@ -60,3 +60,4 @@ pub mod FolderBases
 pub mod FallsAsLaws
 pub mod OwnLocks
 pub mod BasesSetBack
+pub mod GoodNames

@@ -1,6 +1,7 @@
 -- What looking at the sides of a run that holds the lock came to, said of the folder without it, once the lock is freed.
 use Rattle.std.proofs.Common.{◌≡◌, ◌≤◌, subst, sym, inl, inr, ⊎_elim, true, false, arith, Bool, ℕ, ℤ, List, Option, Result, Ok, Err}
 use Rattle.std.specs.Prelude.{IfOk, IfErr}
+use Rattle.bisync_tree.specs.declared.sides.Side.TheVariants.{One, Two}
 use Rattle.bisync_tree.specs.declared.options.Limits.{Limits}
 use Rattle.bisync_device.specs.WorkFolder.{WorkFolder}
 use Rattle.bisync_opts.specs.declared.options.Opts.{Opts}
@@ -33,7 +34,8 @@ module _ (opts : Opts) (limits : Limits) (f : WorkFolder) (s : Sides) (digest : 
   -- the end of a run that has no plan is no good end
   look_answers : (end : End) → AnswersLook opts limits f s digest end → AnswersOrdinary opts limits f s digest end
   look_answers OutOfMemory x = tt
-  look_answers (RemoteFault side) x = tt
+  look_answers (RemoteFault One) x = tt
+  look_answers (RemoteFault Two) x = x
   look_answers WorkFault x = tt
   look_answers (SinkFault false) x = ⊎_elim absurd (λ later. absurd later.3) x
   look_answers (SinkFault true) x = ⊎_elim absurd (λ later. absurd later.3) x

@@ -2,6 +2,7 @@
 use Rattle.std.proofs.Common.{◌≡◌, ◌≢◌, ◌∙◌, refl, subst, sym, inl, inr, true, false, ℕ, List, Option, Result, Ok, Err}
 use Rattle.bisync_tree.specs.Rows.{Rows}
 use Rattle.bisync_tree.specs.declared.entries.Compare.{Compare}
+use Rattle.bisync_tree.specs.declared.sides.Side.TheVariants.{One, Two}
 use Rattle.bisync_tree.specs.declared.options.Limits.{Limits}
 use Rattle.bisync_device.specs.WorkFolder.{WorkFolder}
 use Rattle.bisync_opts.specs.declared.options.CheckSync.{CheckSync}
@@ -14,7 +15,7 @@ use Rattle.bisync_run.specs.Courses.{is_only}
 use Rattle.bisync_run.specs.Ordinary.{TellsCourse}
 use Rattle.bisync_run.specs.OrdinaryEnds.{IsOrdinaryEnd}
 use Rattle.bisync_run.specs.OrdinaryRefusals.{AnswersOrdinary}
-use Rattle.bisync_run.specs.Sides.{Sides}
+use Rattle.bisync_run.specs.Sides.{Sides, IsListable}
 use Rattle.bisync_run.specs.Starting.{ComparesBase, IsStartAnswer}
 use Rattle.bisync_run.specs.Stepping.{IsDeviceFault, IsStepEnd}
 use Rattle.bisync_run.specs.Untouched.{Remotes}
@@ -35,10 +36,11 @@ not_only check e is = false_true (sym e ∙ subst (λ (c : CheckSync). is_only c
 -- # What they answer
 
 module _ (opts : Opts) (limits : Limits) (f : WorkFolder) (s : Sides) (digest : Option (List ℕ)) where
-  pub device_answers : (end : End) → IsDeviceFault end → AnswersOrdinary opts limits f s digest end
-  device_answers WorkFault x = tt
-  device_answers (RemoteFault side) x = tt
-  device_answers end x = absurd x
+  pub device_answers : IsListable limits s.one → (end : End) → IsDeviceFault end → AnswersOrdinary opts limits f s digest end
+  device_answers one WorkFault x = tt
+  device_answers one (RemoteFault One) x = tt
+  device_answers one (RemoteFault Two) x = one
+  device_answers one end x = absurd x
 
   pub start_answers : (end : End) → IsStartAnswer opts limits f digest end → AnswersOrdinary opts limits f s digest end
   start_answers WorkFault x = tt
@@ -65,8 +67,8 @@ module _ (compare : Compare) (one two : Rows) where
   compared_causes old result x = absurd x
 
   pub compared_tells : (opts : Opts) (limits : Limits) (f : WorkFolder) (s : Sides) (digest : Option (List ℕ)) (start : Remotes) (before : List ℕ)
-      → opts.check_sync ≡ Only → (result : Result End End) → ComparesBase compare one two result → TellsCourse opts limits f s digest start start before before result
-  compared_tells opts limits f s digest start before only (Ok InSync) x = inl (only, refl, untouched_same start)
-  compared_tells opts limits f s digest start before only (Err (ListingsDiffer p first second)) x = inr (inl (refl, untouched_same start))
-  compared_tells opts limits f s digest start before only (Err OutOfMemory) x = inr (inl (refl, untouched_same start))
-  compared_tells opts limits f s digest start before only result x = absurd x
+      → opts.check_sync ≡ Only → (g : WorkFolder) → g ≡ f → (result : Result End End) → ComparesBase compare one two result → TellsCourse opts limits f s digest start g start before before result
+  compared_tells opts limits f s digest start before only g same (Ok InSync) x = inl (only, refl, untouched_same start, same)
+  compared_tells opts limits f s digest start before only g same (Err (ListingsDiffer p first second)) x = inr (inl (refl, untouched_same start, same))
+  compared_tells opts limits f s digest start before only g same (Err OutOfMemory) x = inr (inl (refl, untouched_same start, same))
+  compared_tells opts limits f s digest start before only g same result x = absurd x

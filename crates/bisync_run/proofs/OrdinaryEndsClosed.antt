@@ -1,5 +1,5 @@
 -- What is known of the end that an ordinary run with the lock has when it is closed.
-use Rattle.std.proofs.Common.{◌≡◌, ◌∙◌, ◌++◌, ◌||◌, [], ap, subst, sym, refl, inl, inr, Bool, true, false, List, ℕ, Option, Result, Ok, Err, OnOk}
+use Rattle.std.proofs.Common.{◌≡◌, ◌∙◌, ◌++◌, ◌||◌, [], ap, subst, sym, refl, inl, inr, ⊎_elim, ◌⊎◌, Bool, true, false, List, ℕ, Option, None, Some, Result, Ok, Err, OnOk}
 use Rattle.std.specs.Prelude.{IfOk, IfErr}
 use Rattle.std.proofs.lemmas.List.{append-nil}
 use Rattle.bisync_tree.specs.declared.entries.Compare.{Compare}
@@ -7,12 +7,15 @@ use Rattle.bisync_tree.specs.declared.options.Limits.{Limits}
 use Rattle.bisync_device.specs.WorkFolder.{WorkFolder}
 use Rattle.bisync_opts.specs.declared.options.Opts.{Opts}
 use Rattle.bisync_report.specs.declared.ends.End.{End}
-use Rattle.bisync_report.specs.declared.ends.End.TheVariants.{Done, DryRun, InSync, WorkFault, NoFilters, BadRule, Locked, OutOfMemory}
+use Rattle.bisync_report.specs.declared.ends.End.TheVariants.{Done, DryRun, InSync, WorkFault, NoFilters, BadRule, Locked, RemoteFault, Moved, LockLeft, OutOfMemory}
+use Rattle.bisync_work.specs.declared.bases.Pair.TheVariants.{Old}
+use Rattle.bisync_work.specs.Base.{HasNoBase}
 use Rattle.bisync_work.specs.Locks.{ChangesLock}
-use Rattle.bisync_run.specs.Closing.{ClosesWith}
+use Rattle.bisync_run.specs.Closing.{Closes, ClosesWith}
 use Rattle.bisync_run.specs.Counts.{Counts, Stops}
-use Rattle.bisync_run.specs.EndKinds.{is_good, is_after_good, is_sink_fault, may_have_changed, may_tell_plan}
+use Rattle.bisync_run.specs.EndKinds.{is_good, is_after_good, is_sink_fault, lets_fall, may_have_changed, may_tell_plan}
 use Rattle.bisync_run.specs.HeldResyncs.{end_of}
+use Rattle.bisync_run.specs.KeptNames.{IsSideEnd, KeepsButFallen, StandsSetBack}
 use Rattle.bisync_run.specs.Ordinary.{AreCourseLines, IsGoodOrdinaryEnd, TellsCourse}
 use Rattle.bisync_run.specs.OrdinaryEnds.{IsOrdinaryEnd}
 use Rattle.bisync_run.specs.OrdinaryRefusals.{AnswersOrdinary, HasNoOrdinaryRefusal}
@@ -22,7 +25,9 @@ use Rattle.bisync_run.specs.ResyncRuns.{Matter, sides_in}
 use Rattle.bisync_run.specs.Sides.{Sides}
 use Rattle.bisync_run.specs.Untouched.{Remotes, AreUntouched}
 use Rattle.bisync_run.proofs.CoursesBefore.{course_before}
+use Rattle.bisync_run.proofs.EndCases.{false_true}
 use Rattle.bisync_run.proofs.EndLaws.{stops_not_after_good}
+use Rattle.bisync_run.proofs.LockedFolders.{base_past}
 
 -- # The answer
 
@@ -65,27 +70,49 @@ or_true false b is = is
 or_first : (a b : Bool) → a ≡ true → (a || b) ≡ true
 or_first a b is = ap (λ (x : Bool). x || b) is
 
-module _ (opts : Opts) (limits : Limits) (f g : WorkFolder) (changes : ChangesLock f g) (start now : Remotes) (m : Matter opts f start) (before after : List ℕ) where
-  abbrev Told : End → Type 0
-  Told end = TellsOrdinaryRun opts limits f start now before [] after end
+-- no good end is a fault of a side
+not_side : (end : End) → is_good end ≡ true → IsSideEnd end → ⊥
+not_side (RemoteFault side) well is = false_true well
+not_side (Moved side path listed read) well is = false_true well
+not_side end well is = absurd is
 
-  with_lines : (closed : End) (lines : List ℕ) → may_tell_plan closed ≡ true → AreCourseLines opts limits g (sides_in m) m.digest lines → after ≡ before ++ lines → Told closed
-  with_lines closed lines may are is =
-      inr (inr (may, (m, lines, lines_before opts limits f g changes (sides_in m) m.digest lines are, is ∙ sym (append-nil (before ++ lines)))))
+module _ (opts : Opts) (limits : Limits) (f g mid h : WorkFolder) (changes : ChangesLock f g) (closes : Closes mid h) (start now : Remotes) (m : Matter opts f start) (before after : List ℕ) where
+  abbrev Told : End → Type 0
+  Told end = TellsOrdinaryRun opts limits f start h now before [] after end
+
+  -- # The base that was set back
+
+  none_closed : HasNoBase limits.listing mid → HasNoBase limits.listing h
+  none_closed none = ⊎_elim (λ same. same) (λ same. same) (closes.base limits.listing None none)
+
+  stands_closed : (end closed : End) → closed ≡ end → StandsSetBack limits end g mid → StandsSetBack limits closed f h
+  stands_closed end closed same stands side base is =
+      ⊎_elim (λ old. closes.pair limits.listing Old base old) (λ none. inr (none_closed none))
+      (stands (subst IsSideEnd same side) base (base_past f g changes limits.listing (Some base) is))
+
+  good_stands : (end closed : End) → is_good end ≡ true → (closed ≡ end) ⊎ (closed ≡ LockLeft) → StandsSetBack limits closed f h
+  good_stands end closed well (inl same) side base is = absurd (not_side end well (subst IsSideEnd same side))
+  good_stands end closed well (inr left) side base is = absurd (subst IsSideEnd left side)
+
+  -- # The lines
+
+  with_lines : (closed : End) (lines : List ℕ) → may_tell_plan closed ≡ true → StandsSetBack limits closed f h → AreCourseLines opts limits g (sides_in m) m.digest lines → after ≡ before ++ lines → Told closed
+  with_lines closed lines may stands are is =
+      inr (inr (may, stands, (m, lines, lines_before opts limits f g changes (sides_in m) m.digest lines are, is ∙ sym (append-nil (before ++ lines)))))
 
   pub run_tells_closed : (old new : Counts) (ended : Result End End) (closed : End) → IfOk ended (λ end. is_good end ≡ true) → IfErr ended (Stops old new) → ClosesWith ended closed
-      → TellsCourse opts limits g (sides_in m) m.digest start now before after ended → Told closed
-  run_tells_closed old new (Ok end) closed well stops is (inl (only, quiet, untouched)) = inr (inl (λ good. only, quiet ∙ sym (append-nil before), untouched))
-  run_tells_closed old new (Ok end) closed well stops (inl same) (inr (lines, are, told)) =
-      with_lines closed lines (ap may_tell_plan same ∙ or_true (may_have_changed end) (is_good end) well) are told
-  run_tells_closed old new (Ok end) closed well stops (inr left) (inr (lines, are, told)) = with_lines closed lines (ap may_tell_plan left) are told
-  run_tells_closed old new (Err end) closed well stops same (inl failed) = inl (ap is_sink_fault same ∙ failed)
-  run_tells_closed old new (Err end) closed well stops same (inr (inl (quiet, untouched))) =
-      inr (inl (λ good. absurd (stops_not_after_good old new end stops (ap is_after_good (sym same) ∙ good)), quiet ∙ sym (append-nil before), untouched))
-  run_tells_closed old new (Err end) closed well stops same (inr (inr (may, (lines, are, told)))) =
-      with_lines closed lines (ap may_tell_plan same ∙ or_first (may_have_changed end) (is_good end) may) are told
+      → (mid ≡ g → KeepsButFallen (lets_fall opts.resilient opts.dry_run closed) f h) → TellsCourse opts limits g (sides_in m) m.digest start mid now before after ended → Told closed
+  run_tells_closed old new (Ok end) closed well stops is early (inl (only, quiet, untouched, same)) = inr (inl (λ good. only, quiet ∙ sym (append-nil before), untouched, early same))
+  run_tells_closed old new (Ok end) closed well stops (inl same) early (inr (lines, are, told)) =
+      with_lines closed lines (ap may_tell_plan same ∙ or_true (may_have_changed end) (is_good end) well) (good_stands end closed well (inl same)) are told
+  run_tells_closed old new (Ok end) closed well stops (inr left) early (inr (lines, are, told)) = with_lines closed lines (ap may_tell_plan left) (good_stands end closed well (inr left)) are told
+  run_tells_closed old new (Err end) closed well stops same early (inl failed) = inl (ap is_sink_fault same ∙ failed)
+  run_tells_closed old new (Err end) closed well stops same early (inr (inl (quiet, untouched, kept))) =
+      inr (inl (λ good. absurd (stops_not_after_good old new end stops (ap is_after_good (sym same) ∙ good)), quiet ∙ sym (append-nil before), untouched, early kept))
+  run_tells_closed old new (Err end) closed well stops same early (inr (inr (may, stands, (lines, are, told)))) =
+      with_lines closed lines (ap may_tell_plan same ∙ or_first (may_have_changed end) (is_good end) may) (stands_closed end closed same stands) are told
 
 -- a run that didn't get the lock told nothing
-pub tells_unlocked : (opts : Opts) (limits : Limits) (f : WorkFolder) (start : Remotes) (before : List ℕ) (end : End) → (is_after_good end ≡ true → ⊥) → AreUntouched start start
-    → TellsOrdinaryRun opts limits f start start before [] before end
-tells_unlocked opts limits f start before end never untouched = inr (inl (λ good. absurd (never good), sym (append-nil before), untouched))
+pub tells_unlocked : (opts : Opts) (limits : Limits) (f : WorkFolder) (start : Remotes) (g : WorkFolder) (before : List ℕ) (end : End) → (is_after_good end ≡ true → ⊥) → AreUntouched start start
+    → KeepsButFallen (lets_fall opts.resilient opts.dry_run end) f g → TellsOrdinaryRun opts limits f start g start before [] before end
+tells_unlocked opts limits f start g before end never untouched kept = inr (inl (λ good. absurd (never good), sym (append-nil before), untouched, kept))

@@ -32,13 +32,13 @@ run_answers_told opts limits f start clock moment end last answers unrefused (in
     subst (AnswersOrdinaryRun opts limits f start clock moment) (sym failed) (inr (none.0, none.1))
 
 -- the last line stands behind what was told before it
-pub run_tells_last : (opts : Opts) (limits : Limits) (f : WorkFolder) (start now : Remotes) (before mid after last : List ℕ) (end : End)
-    → TellsOrdinaryRun opts limits f start now before [] mid end → after ≡ mid ++ last → TellsOrdinaryRun opts limits f start now before last after end
-run_tells_last opts limits f start now before mid after last end (inl failed) added = inl failed
-run_tells_last opts limits f start now before mid after last end (inr (inl (only, quiet, untouched))) added =
-    inr (inl (only, added ∙ ap (λ (l : List ℕ). l ++ last) (quiet ∙ append-nil before), untouched))
-run_tells_last opts limits f start now before mid after last end (inr (inr (may, (m, lines, are, told)))) added =
-    inr (inr (may, (m, lines, are, added ∙ ap (λ (l : List ℕ). l ++ last) (told ∙ append-nil (before ++ lines)))))
+pub run_tells_last : (opts : Opts) (limits : Limits) (f : WorkFolder) (start : Remotes) (g : WorkFolder) (now : Remotes) (before mid after last : List ℕ) (end : End)
+    → TellsOrdinaryRun opts limits f start g now before [] mid end → after ≡ mid ++ last → TellsOrdinaryRun opts limits f start g now before last after end
+run_tells_last opts limits f start g now before mid after last end (inl failed) added = inl failed
+run_tells_last opts limits f start g now before mid after last end (inr (inl (only, quiet, untouched, kept))) added =
+    inr (inl (only, added ∙ ap (λ (l : List ℕ). l ++ last) (quiet ∙ append-nil before), untouched, kept))
+run_tells_last opts limits f start g now before mid after last end (inr (inr (may, stands, (m, lines, are, told)))) added =
+    inr (inr (may, stands, (m, lines, are, added ∙ ap (λ (l : List ℕ). l ++ last) (told ∙ append-nil (before ++ lines)))))
 
 -- # An image of the folder
 

@@ -37,7 +37,7 @@ module _ (opts : Opts) (limits : Limits) (f : WorkFolder) (digest : Option (List
   -- # What wasn't seen
 
   unseen_one : (tells : Bool) (compare : Compare) → IsTrue tells → (end : End) → IsWhyUnseen tells s.one compare s.passes limits One end → AnswersLook opts limits f s digest end
-  unseen_one tells compare t (RemoteFault side) x = tt
+  unseen_one tells compare t (RemoteFault side) x = subst (λ (of : Side). AnswersLook opts limits f s digest (RemoteFault of)) (sym x) tt
   unseen_one tells compare t (BadPath side text) x = absurd (x.2 t)
   unseen_one tells compare t (TooMany side files bytes) x =
       subst (λ (of : Side). AnswersLook opts limits f s digest (TooMany of files bytes)) (sym x.0) (inr (pair, base, starts, (looks, x.1, x.2 t)))
@@ -47,7 +47,7 @@ module _ (opts : Opts) (limits : Limits) (f : WorkFolder) (digest : Option (List
 
   unseen_two : (tells : Bool) (compare : Compare) → IsTrue tells → IsListable limits s.one → (end : End) → IsWhyUnseen tells s.two compare s.passes limits Two end
       → AnswersLook opts limits f s digest end
-  unseen_two tells compare t one (RemoteFault side) x = tt
+  unseen_two tells compare t one (RemoteFault side) x = subst (λ (of : Side). AnswersLook opts limits f s digest (RemoteFault of)) (sym x) one
   unseen_two tells compare t one (BadPath side text) x = absurd (x.2 t)
   unseen_two tells compare t one (TooMany side files bytes) x =
       subst (λ (of : Side). AnswersLook opts limits f s digest (TooMany of files bytes)) (sym x.0) (inr (pair, base, starts, (looks, one, x.1, x.2 t)))

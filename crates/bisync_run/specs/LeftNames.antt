@@ -1,5 +1,5 @@
 -- What a run leaves of some names of its work folder, whatever call failed.
-use Rattle.std.specs.Prelude.{◌≡◌, ◌⊎◌, ℕ, ℤ, List, Bool, true, false, Option, Some}
+use Rattle.std.specs.Prelude.{◌≡◌, ◌⊎◌, ℕ, ℤ, List, Bool, true, Option, Some}
 use Rattle.bisync_tree.specs.declared.entries.Compare.{Compare}
 use Rattle.bisync_tree.specs.declared.options.Limits.{Limits}
 use Rattle.bisync_device.specs.WorkFolder.{Held, Absent, Kept, WorkFolder, IsSettled, IsImage}
@@ -10,7 +10,6 @@ use Rattle.bisync_work.specs.Locks.{ChangesLock, MakesLock}
 use Rattle.bisync_work.specs.LockTexts.{expiry_of, lock_text}
 use Rattle.bisync_work.specs.Moves.{IsFallen, moved_over}
 use Rattle.bisync_report.specs.declared.ends.End.{End}
-use Rattle.bisync_run.specs.Closing.{but_fallen_or_lock}
 use Rattle.bisync_run.specs.EndKinds.{is_before_lock}
 use Rattle.bisync_run.specs.Entering.{AtMoment, HasSomeRules}
 use Rattle.bisync_run.specs.FolderBases.{TakesNext, compared}
@@ -65,12 +64,6 @@ LeavesOwnLock opts told moment end f g IsKept =
 -- no name but the lock is another, and what is kept is kept; or the listings fell
 abbrev pub StaysOrFell : WorkFolder → WorkFolder → Type 0 → Type 0
 StaysOrFell f g IsKept = (ChangesLock f g × IsKept) ⊎ IsFallen f g
-
--- # A run that only compares its base
-
--- only the names that fall changed, and none but the lock where nothing falls
-abbrev pub KeepsButFallen : Bool → WorkFolder → WorkFolder → Type 0
-KeepsButFallen falls f g = (but_fallen_or_lock g ≡ but_fallen_or_lock f) × (falls ≡ false → ChangesLock f g)
 
 -- # Inside this crate
 

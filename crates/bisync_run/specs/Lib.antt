@@ -9,6 +9,7 @@ pub mod Looking
 pub mod Stepping
 pub mod ResyncWriting
 pub mod Closing
+pub mod KeptNames
 pub mod Untouched
 pub mod CountedChanges
 pub mod CarryingOut
@@ -33,3 +34,4 @@ pub mod Agreement
 pub mod FolderBases
 pub mod LookRuns
 pub mod LeftNames
+pub mod Promises

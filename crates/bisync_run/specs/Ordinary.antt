@@ -15,6 +15,7 @@ use Rattle.bisync_report.specs.declared.ends.End.{End}
 use Rattle.bisync_report.specs.declared.ends.End.TheVariants.{Done, DryRun, InSync}
 use Rattle.bisync_run.specs.Courses.{Course, course_end, course_changes, course_lines, known_in}
 use Rattle.bisync_run.specs.EndKinds.{is_sink_fault, may_have_changed}
+use Rattle.bisync_run.specs.KeptNames.{StandsSetBack}
 use Rattle.bisync_run.specs.Resyncs.{base_of_trees}
 use Rattle.bisync_run.specs.Sides.{Sides, start_of}
 use Rattle.bisync_run.specs.Untouched.{Remotes, AreUntouched}
@@ -91,12 +92,13 @@ pub record AreCourseLines (opts : Opts) (limits : Limits) (f : WorkFolder) (s : 
   pub are : lines ≡ course_lines opts s course.base course.names
 
 -- A run that only compared its base told nothing. Any other good end comes after the lines. Every other end tells nothing, and
--- touched no side, or the lines, where the run may have made changes; of a sink that failed nothing is said here.
-abbrev pub TellsCourse : Opts → Limits → WorkFolder → Sides → Option (List ℕ) → Remotes → Remotes → List ℕ → List ℕ → Result End End → Type 0
-TellsCourse opts limits f s digest start now before after (Ok end) =
-    ((opts.check_sync ≡ Only) × (after ≡ before) × AreUntouched start now)
+-- touched no side and no name; or the lines, where the run may have made changes, with the base set back. Of a sink that failed
+-- nothing is said here.
+abbrev pub TellsCourse : Opts → Limits → WorkFolder → Sides → Option (List ℕ) → Remotes → WorkFolder → Remotes → List ℕ → List ℕ → Result End End → Type 0
+TellsCourse opts limits f s digest start g now before after (Ok end) =
+    ((opts.check_sync ≡ Only) × (after ≡ before) × AreUntouched start now × (g ≡ f))
     ⊎ ((lines : List ℕ) × AreCourseLines opts limits f s digest lines × (after ≡ before ++ lines))
-TellsCourse opts limits f s digest start now before after (Err end) =
+TellsCourse opts limits f s digest start g now before after (Err end) =
     (is_sink_fault end ≡ true)
-    ⊎ (((after ≡ before) × AreUntouched start now)
-    ⊎ ((may_have_changed end ≡ true) × ((lines : List ℕ) × AreCourseLines opts limits f s digest lines × (after ≡ before ++ lines))))
+    ⊎ (((after ≡ before) × AreUntouched start now × (g ≡ f))
+    ⊎ ((may_have_changed end ≡ true) × StandsSetBack limits end f g × ((lines : List ℕ) × AreCourseLines opts limits f s digest lines × (after ≡ before ++ lines))))

@@ -17,7 +17,7 @@ use Rattle.bisync_report.specs.declared.ends.End.{End}
 use Rattle.bisync_report.specs.declared.ends.End.TheVariants.{EmptyPrior, RemoteFault, CheckAccess, EmptyCurrent, TooManyDeletes, AllChanged, OutOfSync, OutOfMemory}
 use Rattle.bisync_run.specs.Courses.{known_in, paths_through}
 use Rattle.bisync_run.specs.OrdinaryRefusals.{IsOrdinaryRefusal}
-use Rattle.bisync_run.specs.Sides.{Sides}
+use Rattle.bisync_run.specs.Sides.{Sides, IsListable}
 use Rattle.bisync_run.specs.Starts.{IsStartOf}
 use Rattle.bisync_run.specs.declared.starting.Started.{Started}
 
@@ -74,8 +74,10 @@ guard_end (guard.AllChanged side all) = AllChanged side all
 abbrev pub IsGuardEnd : Option Guard → End → Type 0
 IsGuardEnd first end = (end ≡ OutOfMemory) ⊎ ((stop : Guard) × (first ≡ Some stop) × (end ≡ guard_end stop))
 
--- why a run that started has no plan: a side's device failed, memory was refused, or a refusal comes
+-- why a run that started has no plan: a side's device failed, memory was refused, or a refusal comes; that of the second
+-- side comes only where the first may be listed
 abbrev pub AnswersLook : Opts → Limits → WorkFolder → Sides → Option (List ℕ) → End → Type 0
 AnswersLook opts limits f s digest OutOfMemory = ⊤
-AnswersLook opts limits f s digest (RemoteFault side) = ⊤
+AnswersLook opts limits f s digest (RemoteFault One) = ⊤
+AnswersLook opts limits f s digest (RemoteFault Two) = IsListable limits s.one
 AnswersLook opts limits f s digest end = IsOrdinaryRefusal opts limits f s digest end

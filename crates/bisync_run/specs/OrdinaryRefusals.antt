@@ -65,10 +65,12 @@ IsOrdinaryRefusal opts limits f s digest end =
 abbrev pub HasNoOrdinaryRefusal : Opts → Limits → WorkFolder → Sides → Option (List ℕ) → Type 0
 HasNoOrdinaryRefusal opts limits f s digest = Course opts limits f s digest ⊎ IsInSync opts limits f s digest
 
--- what each end of an ordinary run with the lock says of them, on devices that tell what they hold
+-- what each end of an ordinary run with the lock says of them, on devices that tell what they hold; the second side's
+-- device is asked only where the first side may be listed
 abbrev pub AnswersOrdinary : Opts → Limits → WorkFolder → Sides → Option (List ℕ) → End → Type 0
 AnswersOrdinary opts limits f s digest WorkFault = ⊤
-AnswersOrdinary opts limits f s digest (RemoteFault side) = ⊤
+AnswersOrdinary opts limits f s digest (RemoteFault One) = ⊤
+AnswersOrdinary opts limits f s digest (RemoteFault Two) = IsListable limits s.one
 AnswersOrdinary opts limits f s digest OutOfMemory = ⊤
 AnswersOrdinary opts limits f s digest (SinkFault false) = Course opts limits f s digest
 AnswersOrdinary opts limits f s digest (SinkFault true) = HasNoOrdinaryRefusal opts limits f s digest

@@ -15,8 +15,9 @@ use Rattle.bisync_transfer.specs.StepTrees.{trees_in}
 use Rattle.bisync_work.specs.Base.{Base, IsBase, HasNoBase}
 use Rattle.bisync_work.specs.Locks.{IsFree}
 use Rattle.bisync_report.specs.declared.ends.End.{End}
-use Rattle.bisync_run.specs.EndKinds.{is_after_good, is_sink_fault, may_tell_plan}
+use Rattle.bisync_run.specs.EndKinds.{is_after_good, is_sink_fault, lets_fall, may_tell_plan}
 use Rattle.bisync_run.specs.Entering.{AtMoment, IsEntryEnd}
+use Rattle.bisync_run.specs.KeptNames.{KeepsButFallen, StandsSetBack}
 use Rattle.bisync_run.specs.Ordinary.{IsMadeNext, AreOnTheWay, IsOrdinaryDone, IsGoodOrdinaryEnd, AreCourseLines}
 use Rattle.bisync_run.specs.OrdinaryRefusals.{AnswersOrdinary, HasNoOrdinaryRefusal}
 use Rattle.bisync_run.specs.ResyncRuns.{Matter, sides_in}
@@ -91,9 +92,10 @@ KeepsSafe opts limits f start g now =
 
 -- What a run with this end told, where the sink didn't fail, and the last of it. A good end, or a lock that could not be
 -- removed after one, tells the lines of its course first, but where only the base was compared. Every other end tells nothing
--- before it, and touched no side; or it tells the lines first, where the run may have made changes.
-abbrev pub TellsOrdinaryRun : Opts → Limits → WorkFolder → Remotes → Remotes → List ℕ → List ℕ → List ℕ → End → Type 0
-TellsOrdinaryRun opts limits f start now before last after end =
+-- before it, and touched no side and no name but the lock and those that fall; or it tells the lines first, where the run may
+-- have made changes, with the base set back.
+abbrev pub TellsOrdinaryRun : Opts → Limits → WorkFolder → Remotes → WorkFolder → Remotes → List ℕ → List ℕ → List ℕ → End → Type 0
+TellsOrdinaryRun opts limits f start g now before last after end =
     (is_sink_fault end ≡ true)
-    ⊎ (((is_after_good end ≡ true → opts.check_sync ≡ Only) × (after ≡ before ++ last) × AreUntouched start now)
-    ⊎ ((may_tell_plan end ≡ true) × ((m : Matter opts f start) × (lines : List ℕ) × AreCourseLines opts limits f (sides_in m) m.digest lines × (after ≡ (before ++ lines) ++ last))))
+    ⊎ (((is_after_good end ≡ true → opts.check_sync ≡ Only) × (after ≡ before ++ last) × AreUntouched start now × KeepsButFallen (lets_fall opts.resilient opts.dry_run end) f g)
+    ⊎ ((may_tell_plan end ≡ true) × StandsSetBack limits end f g × ((m : Matter opts f start) × (lines : List ℕ) × AreCourseLines opts limits f (sides_in m) m.digest lines × (after ≡ (before ++ lines) ++ last))))

@@ -41,10 +41,12 @@ pub record HasNoResyncRefusal (mode : Prefer) (limits : Limits) (f : WorkFolder)
   pub fits1 : Fits (resync_entry (resync_known mode s)) (header_of stamp s.compare) limits.listing One
   pub fits2 : Fits (resync_entry (resync_known mode s)) (header_of stamp s.compare) limits.listing Two
 
--- what each end of a resync with the lock says of them, on devices that tell what they hold
+-- what each end of a resync with the lock says of them, on devices that tell what they hold; the second side's device is
+-- asked only where the first side may be listed
 abbrev pub AnswersResync : Prefer → Limits → WorkFolder → Sides → End → Type 0
 AnswersResync mode limits f s WorkFault = ⊤
-AnswersResync mode limits f s (RemoteFault side) = ⊤
+AnswersResync mode limits f s (RemoteFault One) = ⊤
+AnswersResync mode limits f s (RemoteFault Two) = IsListable limits s.one
 AnswersResync mode limits f s OutOfMemory = ⊤
 AnswersResync mode limits f s (TooMany side files bytes) = IsResyncRefusal mode limits f s (TooMany side files bytes)
 AnswersResync mode limits f s (ListingTooLong side bytes) = IsResyncRefusal mode limits f s (ListingTooLong side bytes)

@@ -1,5 +1,5 @@
 -- What a run that is a resync promises, over the state at its entry and the state at its return, whatever call failed.
-use Rattle.std.specs.Prelude.{◌≡◌, ◌⊎◌, ◌++◌, ℕ, ℤ, List, Option, Bool, true, false}
+use Rattle.std.specs.Prelude.{◌≡◌, ◌⊎◌, ◌++◌, ℕ, ℤ, List, Option, Bool, IsTrue, true, false}
 use Rattle.bisync_tree.specs.declared.sides.Side.TheVariants.{One, Two}
 use Rattle.bisync_tree.specs.declared.options.Limits.{Limits}
 use Rattle.bisync_tree.specs.declared.options.Prefer.{Prefer}
@@ -11,10 +11,11 @@ use Rattle.bisync_work.specs.Locks.{IsFree}
 use Rattle.bisync_report.specs.declared.ends.End.{End}
 use Rattle.bisync_report.specs.declared.ends.End.TheVariants.{OutOfMemory}
 use Rattle.bisync_run.specs.CarryingOut.{AreSetAside, but_carried}
-use Rattle.bisync_run.specs.EndKinds.{is_after_good, is_sink_fault, is_unlocked, may_tell_plan}
+use Rattle.bisync_run.specs.EndKinds.{is_after_good, is_sink_fault, is_unlocked, lets_fall, may_tell_plan}
 use Rattle.bisync_run.specs.Entering.{AtMoment, IsEntryEnd}
 use Rattle.bisync_run.specs.FilterRules.{AreRulesOf}
 use Rattle.bisync_run.specs.HeldResyncs.{IsGoodEndOf}
+use Rattle.bisync_run.specs.KeptNames.{KeepsButFallen}
 use Rattle.bisync_model.specs.Between.{IsMixOf}
 use Rattle.bisync_transfer.specs.StepTrees.{trees_in}
 use Rattle.bisync_run.specs.Resyncs.{HasOutcome, IsMadeAnew, IsResynced, LeavesTrees, resync_lines}
@@ -94,12 +95,13 @@ abbrev pub TellsPlanAnd : Prefer → Opts → WorkFolder → Remotes → List �
 TellsPlanAnd mode opts f start before last after = (m : Matter opts f start) × (after ≡ (before ++ resync_lines mode (sides_in m)) ++ last)
 
 -- What a run with this end told, where the sink didn't fail, and the last of it. A good end, or a lock that could not be
--- removed after one, tells the lines of the plan first. Every other end tells nothing before it, and touched no side; or it
--- tells the lines of the plan first, where the run may have made changes.
-abbrev pub TellsRun : Prefer → Opts → WorkFolder → Remotes → Remotes → List ℕ → List ℕ → List ℕ → End → Type 0
-TellsRun mode opts f start now before last after end =
+-- removed after one, tells the lines of the plan first. Every other end tells nothing before it, and touched no side and, as a
+-- work folder that tells has it, no name but the lock and those that fall; or it tells the lines of the plan first, where the
+-- run may have made changes.
+abbrev pub TellsRun : Prefer → Opts → Bool → WorkFolder → Remotes → WorkFolder → Remotes → List ℕ → List ℕ → List ℕ → End → Type 0
+TellsRun mode opts tells f start g now before last after end =
     (is_sink_fault end ≡ true)
-    ⊎ (((is_after_good end ≡ false) × (after ≡ before ++ last) × AreUntouched start now)
+    ⊎ (((is_after_good end ≡ false) × (after ≡ before ++ last) × AreUntouched start now × (IsTrue tells → KeepsButFallen (lets_fall opts.resilient opts.dry_run end) f g))
     ⊎ ((may_tell_plan end ≡ true) × TellsPlanAnd mode opts f start before last after))
 
 -- # The lock

@@ -1,13 +1,14 @@
 //! How a run ends: the listings fall where the end asks for it, the lock goes, and the last line is
 //! told.
 
-ghost use Rattle.std.specs.Prelude.{◌≡◌, ◌⊎◌, ◌≤◌, ◌++◌, IsTrue, IsOk, None, true, false};
+ghost use Rattle.std.specs.Prelude.{◌≡◌, ◌⊎◌, ◌≤◌, ◌++◌, ℕ, IsTrue, IsOk, None, true, false};
 ghost use Rattle.bisync_device.specs.Faults.{Rose};
 ghost use Rattle.bisync_device.specs.WorkFolder.{Absent};
 ghost use Rattle.bisync_work.specs.Moves.{Falls, IsFallen};
 ghost use Rattle.bisync_report.specs.LastLine.{last_text};
 ghost use Rattle.bisync_run.specs.Closing.{ClosesWith, CountsClose, Closes, Unlocks, HasNoListings, EndsWith};
 ghost use Rattle.bisync_run.specs.EndKinds.{is_good as is_good_end, falls_at_close};
+ghost use Rattle.bisync_run.specs.KeptNames.{HasGoodNames};
 
 use bisync_device::{Sink, Work};
 use bisync_opts::Opts;
@@ -17,6 +18,7 @@ use bisync_work::{fall, free_lock};
 /// Closes a course that held the lock and ended so: Ok is a good end.
 pub fn close<W: Work>(opts: &Opts, work: &mut W, ended: Result<End, End>) -> End
     ensures end { ClosesWith ended result }
+    ensures good_names { IsTrue W.tells → (limit : ℕ) → HasGoodNames limit (W.state work.old).folder → HasGoodNames limit (W.state work.new).folder }
     ensures closes { IsTrue W.tells → Closes (W.state work.old).folder (W.state work.new).folder }
     ensures kept { IsTrue W.tells → falls_at_close opts.now.resilient opts.now.dry_run ended ≡ false → Unlocks (W.state work.old).folder (W.state work.new).folder }
     ensures fallen { IsTrue W.tells → falls_at_close opts.now.resilient opts.now.dry_run ended ≡ true → (Rose (W.state work.old).faults (W.state work.new).faults → ⊥) → HasNoListings (W.state work.new).folder }
@@ -41,6 +43,7 @@ pub fn close<W: Work>(opts: &Opts, work: &mut W, ended: Result<End, End>) -> End
 /// Lets the listings fall where the end asks for it, in no dry run and not with `--resilient`. Where a
 /// call fails, the fall ends there.
 fn fall_where<W: Work>(opts: &Opts, work: &mut W, ended: &Result<End, End>)
+    ensures good_names { IsTrue W.tells → (limit : ℕ) → HasGoodNames limit (W.state work.old).folder → HasGoodNames limit (W.state work.new).folder }
     ensures falls { IsTrue W.tells → Falls (W.state work.old).folder (W.state work.new).folder }
     ensures kept { falls_at_close opts.now.resilient opts.now.dry_run ended.now ≡ false → work.new ≡ work.old }
     ensures fallen { IsTrue W.tells → falls_at_close opts.now.resilient opts.now.dry_run ended.now ≡ true → (Rose (W.state work.old).faults (W.state work.new).faults → ⊥) → HasNoListings (W.state work.new).folder }

@@ -17,6 +17,7 @@ ghost use Rattle.bisync_run.specs.EndKinds.{is_good, is_unlocked, may_have_chang
 ghost use Rattle.bisync_run.specs.FolderBases.{LeavesHeldBase, LeavesNextInPlace, Writes};
 ghost use Rattle.bisync_run.specs.Grounds.{HasGrounds, IsTold};
 ghost use Rattle.bisync_run.specs.HeldResyncs.{end_of, IsGoodEndOf, TellsPlan};
+ghost use Rattle.bisync_run.specs.KeptNames.{KeepsGoodNames};
 ghost use Rattle.bisync_run.specs.LeftNames.{FallsAs, KeepsOwnLock, LeavesBaseSetBack, StoresDigest};
 ghost use Rattle.bisync_run.specs.LockNew.{KeepsLockNew};
 ghost use Rattle.bisync_run.specs.Ordinary.{but_ordinary, IsOrdinaryDone, IsGoodOrdinaryEnd, KeepsBaseOrMakesNext, LeavesOrdinaryTrees, TellsCourse};
@@ -66,7 +67,7 @@ pub fn held<A: Remote, B: Remote, W: Work, C: Clock, S: Sink>(
     ensures kind { (mode : Prefer) → opts.now.resync ≡ Some mode → IsResyncEnd opts.now (end_of result) }
     ensures set_aside { (mode : Prefer) → opts.now.resync ≡ Some mode → IsTrue W.tells → opts.now.dry_run ≡ false → OnOk result (AreSetAside entered.now.digest (W.state work.old).folder (W.state work.new).folder) }
     ensures report { (mode : Prefer) → opts.now.resync ≡ Some mode → IsTrue A.tells → IsTrue B.tells → IsTrue S.tells →
-        TellsPlan mode (sides_of opts.now.compare entered.now.rules (A.state one.old) (B.state two.old)) (by_side (A.state one.old) (B.state two.old)) (by_side (A.state one.new) (B.state two.new)) (S.state sink.old).bytes (S.state sink.new).bytes result }
+        TellsPlan mode (sides_of opts.now.compare entered.now.rules (A.state one.old) (B.state two.old)) (by_side (A.state one.old) (B.state two.old)) (by_side (A.state one.new) (B.state two.new)) (KeepsFolder W.tells (W.state work.old) (W.state work.new)) (S.state sink.old).bytes (S.state sink.new).bytes result }
     ensures run_base { opts.now.resync ≡ None → IsTrue A.tells → IsTrue B.tells → IsTrue W.tells →
         KeepsBaseOrMakesNext opts.now limits.now (W.state work.old).folder (sides_of opts.now.compare entered.now.rules (A.state one.old) (B.state two.old)) entered.now.digest (W.state work.new).folder (by_side (A.state one.new) (B.state two.new)) }
     ensures run_trees { opts.now.resync ≡ None → IsTrue A.tells → IsTrue B.tells → IsTrue W.tells →
@@ -83,7 +84,7 @@ pub fn held<A: Remote, B: Remote, W: Work, C: Clock, S: Sink>(
     ensures begun { opts.now.resync ≡ None → IsTrue W.tells → OnOk result (IsWellBegun opts.now limits.now (W.state work.old).folder (sides_of opts.now.compare entered.now.rules (A.state one.old) (B.state two.old)) entered.now.digest) }
     ensures run_kind { opts.now.resync ≡ None → IsOrdinaryEnd opts.now (compare_in opts.now.compare (A.state one.old).window (B.state two.old).window) (end_of result) }
     ensures run_report { opts.now.resync ≡ None → IsTrue A.tells → IsTrue B.tells → IsTrue W.tells → IsTrue S.tells →
-        TellsCourse opts.now limits.now (W.state work.old).folder (sides_of opts.now.compare entered.now.rules (A.state one.old) (B.state two.old)) entered.now.digest (by_side (A.state one.old) (B.state two.old)) (by_side (A.state one.new) (B.state two.new)) (S.state sink.old).bytes (S.state sink.new).bytes result }
+        TellsCourse opts.now limits.now (W.state work.old).folder (sides_of opts.now.compare entered.now.rules (A.state one.old) (B.state two.old)) entered.now.digest (by_side (A.state one.old) (B.state two.old)) (W.state work.new).folder (by_side (A.state one.new) (B.state two.new)) (S.state sink.old).bytes (S.state sink.new).bytes result }
     ensures compares_one { opts.now.resync ≡ None → opts.now.check_sync ≡ CheckSync.Only → KeepsTree A.tells (A.state one.old) (A.state one.new) }
     ensures compares_two { opts.now.resync ≡ None → opts.now.check_sync ≡ CheckSync.Only → KeepsTree B.tells (B.state two.old) (B.state two.new) }
     ensures compares { opts.now.resync ≡ None → opts.now.check_sync ≡ CheckSync.Only → KeepsFolder W.tells (W.state work.old) (W.state work.new) }
@@ -94,6 +95,7 @@ pub fn held<A: Remote, B: Remote, W: Work, C: Clock, S: Sink>(
     ensures own_lock { IsTrue W.tells → KeepsOwnLock opts.now.max_lock C.tells (C.moment clock.old) (W.state work.old).folder.lock (W.state work.new).folder.lock }
     ensures digest_late { (mode : Prefer) → opts.now.resync ≡ Some mode → IsTrue W.tells → StoresDigest limits.now (compare_in opts.now.compare (A.state one.old).window (B.state two.old).window) entered.now.digest (W.state work.old).folder (W.state work.new).folder }
     ensures set_back { opts.now.resync ≡ None → IsTrue A.tells → IsTrue B.tells → IsTrue W.tells → LeavesBaseSetBack limits.now (compare_in opts.now.compare (A.state one.old).window (B.state two.old).window) (W.state work.old).folder (by_side (A.state one.old) (B.state two.old)) (W.state work.new).folder (by_side (A.state one.new) (B.state two.new)) }
+    ensures good_names { opts.now.resync ≡ None → IsTrue W.tells → KeepsGoodNames limits.now (W.state work.old).folder (W.state work.new).folder }
     ensures folder_next { IsTrue W.tells → Writes opts.now → OnOk result (LeavesNextInPlace opts.now limits.now (W.state work.old).folder (by_side (A.state one.old) (B.state two.old)) (W.state work.new).folder) }
     ensures settled { IsTrue W.tells → IsSettled (W.state work.old).folder → IsSettled (W.state work.new).folder }
     ensures rest { IsTrue W.tells → but_carried (W.state work.new).folder ≡ but_carried (W.state work.old).folder }

@@ -1,35 +1,12 @@
 //! One run.
 
 ghost use Rattle.std.specs.Prelude.{◌≡◌, ◌≢◌, ◌⊎◌, ◌+◌, ◌++◌, ◌||◌, ℕ, List, Option, IsTrue, None, Some, true, false};
-ghost use Rattle.bisync_tree.specs.Rows.{PathBytes};
-ghost use Rattle.bisync_tree.specs.declared.entries.Entry.{Entry};
 ghost use Rattle.bisync_tree.specs.declared.options.Prefer.{Prefer};
-ghost use Rattle.bisync_model.specs.Trees.{by_side};
 ghost use Rattle.bisync_device.specs.Faults.{Rose};
-ghost use Rattle.bisync_device.specs.Remote.{KeepsTree};
-ghost use Rattle.bisync_device.specs.WorkFolder.{Absent, WorkFolder, IsSettled, IsImage};
 ghost use Rattle.bisync_opts.specs.Ranges.{IsInRange};
 ghost use Rattle.bisync_report.specs.LastLine.{last_text};
 ghost use Rattle.bisync_report.specs.declared.ends.End.TheVariants.{Done, OutOfSync, Resynced};
-ghost use Rattle.bisync_work.specs.Locks.{ChangesLock, IsFree, KeepsBlocking};
-ghost use Rattle.bisync_work.specs.Moves.{IsFallen};
-ghost use Rattle.bisync_run.specs.Agreement.{LeavesInSync, LeavesResyncInSync, WasApartBefore};
-ghost use Rattle.bisync_run.specs.Beginnings.{AnswersBeginningOf, IsWellBegunOf};
-ghost use Rattle.bisync_run.specs.Closing.{HasNoListings, but_fallen_or_lock};
-ghost use Rattle.bisync_run.specs.Counts.{counts, Later, Ends};
-ghost use Rattle.bisync_run.specs.EndKinds.{is_good, is_after_good, has_freed, is_before_lock, is_unlocked, lets_fall, may_have_changed, may_tell_plan};
-ghost use Rattle.bisync_run.specs.Entering.{AtMoment, HasSomeRules, IsEntryEnd, IsHeldBack};
-ghost use Rattle.bisync_run.specs.FilterRules.{KnowsRules};
-ghost use Rattle.bisync_run.specs.FolderBases.{LeavesFolderBase, LeavesNextInPlace, Writes, compared};
-ghost use Rattle.bisync_run.specs.Grounds.{HasGrounds, IsTold};
-ghost use Rattle.bisync_run.specs.LeftNames.{KeepsButFallen, LeavesBaseSetBack, LeavesOwnLock, MayBeLeft, StaysOrFell, StoresDigestOf};
-ghost use Rattle.bisync_run.specs.LockNew.{KeepsLockNew};
-ghost use Rattle.bisync_run.specs.Ordinary.{KeepsOrdinaryRest};
-ghost use Rattle.bisync_run.specs.OrdinaryEnds.{IsOrdinaryEnd};
-ghost use Rattle.bisync_run.specs.OrdinaryRuns.{AnswersOrdinaryRun, HasOrdinaryNumbers, IsDoneBy, IsUnrefused, KeepsOrdinaryBaseOf, KeepsSafe, LeavesOrdinaryBaseOf, LeavesOrdinaryTreesOf, TellsOrdinaryRun};
-ghost use Rattle.bisync_run.specs.ResyncEnds.{IsResyncEnd};
-ghost use Rattle.bisync_run.specs.ResyncRuns.{HasOutcomeOf, LeavesMixOf, AnswersRun, AreSetAsideBy, HasNoRefusal, IsResyncedBy, HasNumbers, LeavesBaseOf, LeavesTreesOf, TellsRun, LeavesLock, but_run};
-ghost use Rattle.bisync_run.specs.Sides.{compare_in};
+ghost use Rattle.bisync_run.specs.Promises.{Absent, AnswersBeginningOf, AnswersOrdinaryRun, AnswersRun, AreSetAsideBy, AtMoment, but_fallen_or_lock, but_run, by_side, ChangesLock, compare_in, compared, counts, Ends, Entry, has_freed, HasGrounds, HasNoListings, HasNoRefusal, HasNumbers, HasOrdinaryNumbers, HasOutcomeOf, HasSomeRules, is_after_good, is_before_lock, is_good, is_unlocked, IsDoneBy, IsEntryEnd, IsFallen, IsFree, IsHeldBack, IsImage, IsOrdinaryEnd, IsResyncedBy, IsResyncEnd, IsSettled, IsTold, IsUnrefused, IsWellBegunOf, KeepsBlocking, KeepsButFallen, KeepsGoodNames, KeepsLockNew, KeepsOrdinaryBaseOf, KeepsOrdinaryRest, KeepsSafe, KeepsTree, KnowsRules, Later, LeavesBaseOf, LeavesBaseSetBack, LeavesFolderBase, LeavesInSync, LeavesLock, LeavesMixOf, LeavesNextInPlace, LeavesOrdinaryBaseOf, LeavesOrdinaryTreesOf, LeavesOwnLock, LeavesResyncInSync, LeavesTreesOf, lets_fall, may_have_changed, may_tell_plan, MayBeLeft, PathBytes, StaysOrFell, StoresDigestOf, TellsOrdinaryRun, TellsRun, WasApartBefore, WorkFolder, Writes};
 
 use crate::closed_runs::run_to_close;
 use crate::closing::tell_end;
@@ -79,6 +56,7 @@ pub fn run<A: Remote, B: Remote, W: Work, C: Clock, S: Sink>(
     ensures resilient_base { opts.now.resync ≡ None → IsTrue A.tells → IsTrue B.tells → IsTrue W.tells → (opts.now.resilient || opts.now.dry_run) ≡ true → KeepsOrdinaryBaseOf opts.now limits.now (W.state work.old).folder (by_side (A.state one.old) (B.state two.old)) (W.state work.new).folder (by_side (A.state one.new) (B.state two.new)) }
     ensures run_trees { opts.now.resync ≡ None → IsTrue A.tells → IsTrue B.tells → IsTrue W.tells → LeavesOrdinaryTreesOf opts.now limits.now (W.state work.old).folder (by_side (A.state one.old) (B.state two.old)) C.tells (C.moment clock.old) (by_side (A.state one.new) (B.state two.new)) }
     ensures set_back { opts.now.resync ≡ None → IsTrue A.tells → IsTrue B.tells → IsTrue W.tells → (h : WorkFolder) → MayBeLeft (W.state work.old).folder (W.state work.new).folder h → LeavesBaseSetBack limits.now (compared opts.now (by_side (A.state one.old) (B.state two.old))) (W.state work.old).folder (by_side (A.state one.old) (B.state two.old)) h (by_side (A.state one.new) (B.state two.new)) }
+    ensures good_names { opts.now.resync ≡ None → IsTrue W.tells → (h : WorkFolder) → MayBeLeft (W.state work.old).folder (W.state work.new).folder h → KeepsGoodNames limits.now (W.state work.old).folder h }
     ensures run_rest { opts.now.resync ≡ None → IsTrue W.tells → KeepsOrdinaryRest (lets_fall opts.now.resilient opts.now.dry_run result) (W.state work.old).folder (W.state work.new).folder }
     ensures only_run { opts.now.resync ≡ None → IsOrdinaryEnd opts.now (compare_in opts.now.compare (A.state one.old).window (B.state two.old).window) result }
     ensures run_images { opts.now.resync ≡ None → IsTrue A.tells → IsTrue B.tells → IsTrue W.tells → IsSettled (W.state work.old).folder → (h : WorkFolder) → IsImage (W.state work.new).folder h → LeavesOrdinaryBaseOf opts.now limits.now (W.state work.old).folder (by_side (A.state one.old) (B.state two.old)) h (by_side (A.state one.new) (B.state two.new)) }
@@ -125,8 +103,8 @@ pub fn run<A: Remote, B: Remote, W: Work, C: Clock, S: Sink>(
     ensures lines { IsTrue S.tells → (Rose (S.state sink.old).faults (S.state sink.new).faults → ⊥) → (lines : List ℕ) × ((S.state sink.new).bytes ≡ ((S.state sink.old).bytes ++ lines) ++ last_text result) }
     ensures built { result ≢ End.NotBuilt }
     ensures report { (mode : Prefer) → opts.now.resync ≡ Some mode → IsTrue A.tells → IsTrue B.tells → IsTrue S.tells → KnowsRules W.tells opts.now.filters → (Rose (S.state sink.old).faults (S.state sink.new).faults → ⊥) →
-        TellsRun mode opts.now (W.state work.old).folder (by_side (A.state one.old) (B.state two.old)) (by_side (A.state one.new) (B.state two.new)) (S.state sink.old).bytes (last_text result) (S.state sink.new).bytes result }
-    ensures run_report { opts.now.resync ≡ None → IsTrue A.tells → IsTrue B.tells → IsTrue W.tells → IsTrue S.tells → (Rose (S.state sink.old).faults (S.state sink.new).faults → ⊥) → TellsOrdinaryRun opts.now limits.now (W.state work.old).folder (by_side (A.state one.old) (B.state two.old)) (by_side (A.state one.new) (B.state two.new)) (S.state sink.old).bytes (last_text result) (S.state sink.new).bytes result }
+        TellsRun mode opts.now W.tells (W.state work.old).folder (by_side (A.state one.old) (B.state two.old)) (W.state work.new).folder (by_side (A.state one.new) (B.state two.new)) (S.state sink.old).bytes (last_text result) (S.state sink.new).bytes result }
+    ensures run_report { opts.now.resync ≡ None → IsTrue A.tells → IsTrue B.tells → IsTrue W.tells → IsTrue S.tells → (Rose (S.state sink.old).faults (S.state sink.new).faults → ⊥) → TellsOrdinaryRun opts.now limits.now (W.state work.old).folder (by_side (A.state one.old) (B.state two.old)) (W.state work.new).folder (by_side (A.state one.new) (B.state two.new)) (S.state sink.old).bytes (last_text result) (S.state sink.new).bytes result }
 {
     // Read here, so that its range is known to the proof.
     let _limit = limits.listing;

@@ -14,14 +14,15 @@ use Rattle.bisync_run.proofs.BlockedFolders.{blocked_nowhere}
 use Rattle.bisync_run.proofs.BeginningLaws.{begins_before, begins_closed, well_before}
 use Rattle.bisync_run.proofs.AnswersBefore.{none_before, answers_before}
 use Rattle.bisync_run.proofs.Closed.{base_closed, base_unlocked, done_closed, done_unlocked}
-use Rattle.bisync_run.proofs.ClosedEnds.{on_ok, falls_ok, falls_dry, changes_closed, early_closed, answers_closed, numbers_closed, tells_closed}
-use Rattle.bisync_run.proofs.ClosedKinds.{no_rise_last, no_rise_mid, falls_closed, fell_closed, quiet_closed, own_closed, locked_closed, freed_was_good, fallen_same, fallen_closed, lock_new_closed, no_digest_closed, aside_closed}
+use Rattle.bisync_run.proofs.ClosedEnds.{on_ok, falls_ok, falls_dry, changes_closed, early_closed, answers_closed, numbers_closed, tells_closed, tells_unlocked as tells_unlocked_resync}
+use Rattle.bisync_run.proofs.ClosedKinds.{no_rise_last, no_rise_mid, falls_closed, fell_closed, quiet_closed, own_closed, locked_closed, freed_was_good, fallen_same, fallen_closed, kept_early, kept_unlocked, lock_new_closed, no_digest_closed, aside_closed}
 use Rattle.bisync_run.proofs.CoursesBefore.{run_answers_before, unrefused_before}
 use Rattle.bisync_run.proofs.DoneSteps.{untouched_same}
 use Rattle.bisync_run.proofs.EndCases.{false_true, good_is_after_good}
 use Rattle.bisync_run.proofs.EndKindLaws.{unlocked_is_own, unlocked_not_after_good, unlocked_fell, freed_is_after_good}
 use Rattle.bisync_run.proofs.FallsAsLaws.{keeps_tree_same, resync_fell, where_it_falls}
 use Rattle.bisync_run.proofs.FolderBases.{folder_base_closed, folder_base_unlocked, folder_next_closed}
+use Rattle.bisync_run.proofs.GoodNames.{locked_good}
 use Rattle.bisync_run.proofs.LockNewLaws.{lock_new_twice, lock_new_same}
 use Rattle.bisync_run.proofs.LockedFolders.{base_past}
 use Rattle.bisync_run.proofs.OrdinaryClosed.{base_kept, falls_resilient, rest_closed, rest_locked, run_base_closed, run_done_closed, way_before}
@@ -35,10 +36,8 @@ use Rattle.bisync_run.proofs.closed_runs.run_to_close.Goals as goal
 
 pub returns-in-Err-clause-base : goal.returns-in-Err-clause-base
 returns-in-Err-clause-base g c mode mode_is one two work base is =
-    inl (
-      base_past (g.W.Work.state c.args.work.now).folder (g.W.Work.state c.enter.new.work).folder (c.in-Err.ensures.others work) c.args.limits.now.listing base is,
-      untouched_same (by_side (g.A.Remote.state c.args.one.now) (g.B.Remote.state c.args.two.now)),
-    )
+    let same = untouched_same (by_side (g.A.Remote.state c.args.one.now) (g.B.Remote.state c.args.two.now)) in
+    inl (base_past (g.W.Work.state c.args.work.now).folder (g.W.Work.state c.enter.new.work).folder (c.in-Err.ensures.others work) c.args.limits.now.listing base is, same)
 
 pub returns-in-Err-clause-answers : goal.returns-in-Err-clause-answers
 returns-in-Err-clause-answers g c mode mode_is one two work = inl (c.in-Err.ensures.entry work)
@@ -53,8 +52,7 @@ pub returns-in-Err-clause-only : goal.returns-in-Err-clause-only
 returns-in-Err-clause-only g c mode mode_is = unlocked_is_own c.args.opts.now c.in-Err.end c.in-Err.ensures.kind
 
 pub returns-in-Err-clause-only_fallen : goal.returns-in-Err-clause-only_fallen
-returns-in-Err-clause-only_fallen g c work early =
-    fallen_same (g.W.Work.state c.args.work.now).folder (g.W.Work.state c.enter.new.work).folder (c.in-Err.ensures.others work)
+returns-in-Err-clause-only_fallen g c work early = fallen_same (g.W.Work.state c.args.work.now).folder (g.W.Work.state c.enter.new.work).folder (c.in-Err.ensures.others work)
 
 pub returns-in-Err-clause-fallen : goal.returns-in-Err-clause-fallen
 returns-in-Err-clause-fallen g c work fell never =
@@ -62,8 +60,7 @@ returns-in-Err-clause-fallen g c work fell never =
     c.args.opts.now.resilient c.args.opts.now.dry_run c.in-Err.end c.in-Err.ensures.kind c.in-Err.ensures.causes.fault fell))
 
 pub returns-in-Err-clause-freed : goal.returns-in-Err-clause-freed
-returns-in-Err-clause-freed g c work freed =
-    absurd (unlocked_not_after_good c.args.opts.now.filters c.in-Err.end c.in-Err.ensures.kind (freed_is_after_good c.in-Err.end freed))
+returns-in-Err-clause-freed g c work freed = absurd (unlocked_not_after_good c.args.opts.now.filters c.in-Err.end c.in-Err.ensures.kind (freed_is_after_good c.in-Err.end freed))
 
 pub returns-in-Err-clause-lock_new : goal.returns-in-Err-clause-lock_new
 returns-in-Err-clause-lock_new g c work (inl good) = absurd (unlocked_not_after_good c.args.opts.now.filters c.in-Err.end c.in-Err.ensures.kind good)
@@ -195,12 +192,16 @@ returns-in-Err-clause-built g c = unlocked_built c.in-Err.end c.in-Err.ensures.o
 pub returns-clause-built : goal.returns-clause-built
 returns-clause-built g c = closed_built _ _ c.held-ended.result c.close.result c.held-ended.ensures.well c.held-ended.ensures.causes.fault c.close.ensures.end
 
+pub returns-in-Err-clause-report : goal.returns-in-Err-clause-report
+returns-in-Err-clause-report g c mode mode_is one two sink work =
+    tells_unlocked_resync mode c.args.opts.now g.W.Work.tells _ _ _ _ c.in-Err.end (unlocked_not_after_good c.args.opts.now.filters c.in-Err.end c.in-Err.ensures.kind) (untouched_same _) (λ t. kept_unlocked _ _ _ (c.in-Err.ensures.others t))
+
 pub returns-clause-report : goal.returns-clause-report
 returns-clause-report g c mode mode_is one two sink work =
     let a = g.A.Remote.state c.args.one.now in let b = g.B.Remote.state c.args.two.now in let f = (g.W.Work.state c.args.work.now).folder in let m : Matter c.args.opts.now f (by_side a b) = record { rules = c.in-Ok.entered.rules; digest = c.in-Ok.entered.digest; are = c.in-Ok.ensures.rules work } in
-    tells_closed mode c.args.opts.now f (by_side a b) (by_side (g.A.Remote.state c.held-ended.new.one) (g.B.Remote.state c.held-ended.new.two)) m
+    tells_closed mode c.args.opts.now g.W.Work.tells f (g.W.Work.state c.close.new.work).folder (by_side a b) (by_side (g.A.Remote.state c.held-ended.new.one) (g.B.Remote.state c.held-ended.new.two)) m _
     (g.S.Sink.state c.args.sink.now).bytes (g.S.Sink.state c.held-ended.new.sink).bytes _ _ c.held-ended.result c.close.result
-    c.held-ended.ensures.well c.held-ended.ensures.causes.fault c.close.ensures.end (c.held-ended.ensures.report mode mode_is one two sink)
+    c.held-ended.ensures.well c.held-ended.ensures.causes.fault c.close.ensures.end (λ kept t. kept_early c.args.opts.now.resilient c.args.opts.now.dry_run c.held-ended.result c.close.result c.close.ensures.end f _ _ _ (c.in-Ok.ensures.others t) (c.close.ensures.closes t) (c.close.ensures.kept t) (kept t)) (c.held-ended.ensures.report mode mode_is one two sink)
 
 -- # An ordinary run
 
@@ -236,9 +237,9 @@ returns-in-Err-clause-only_run g c none = unlocked_is_ordinary c.args.opts.now _
 
 pub returns-in-Err-clause-run_report : goal.returns-in-Err-clause-run_report
 returns-in-Err-clause-run_report g c none one two work sink =
-    tells_unlocked c.args.opts.now c.args.limits.now (g.W.Work.state c.args.work.now).folder (by_side (g.A.Remote.state c.args.one.now) (g.B.Remote.state c.args.two.now))
+    tells_unlocked c.args.opts.now c.args.limits.now (g.W.Work.state c.args.work.now).folder (by_side (g.A.Remote.state c.args.one.now) (g.B.Remote.state c.args.two.now)) (g.W.Work.state c.enter.new.work).folder
     (g.S.Sink.state c.args.sink.now).bytes c.in-Err.end (unlocked_not_after_good c.args.opts.now.filters c.in-Err.end c.in-Err.ensures.kind)
-    (untouched_same (by_side (g.A.Remote.state c.args.one.now) (g.B.Remote.state c.args.two.now)))
+    (untouched_same (by_side (g.A.Remote.state c.args.one.now) (g.B.Remote.state c.args.two.now))) (kept_unlocked _ _ _ (c.in-Err.ensures.others work))
 
 pub returns-clause-run_answers : goal.returns-clause-run_answers
 returns-clause-run_answers g c none one two work =
@@ -305,19 +306,16 @@ returns-clause-only_run g c none = ordinary_closed c.args.opts.now _ c.held-ende
 pub returns-clause-run_report : goal.returns-clause-run_report
 returns-clause-run_report g c none one two work sink =
     let f = (g.W.Work.state c.args.work.now).folder in let m : Matter c.args.opts.now f _ = record { rules = c.in-Ok.entered.rules; digest = c.in-Ok.entered.digest; are = c.in-Ok.ensures.rules (inl work) } in
-    run_tells_closed c.args.opts.now c.args.limits.now f _ (c.in-Ok.ensures.others work) _ _ m
+    run_tells_closed c.args.opts.now c.args.limits.now f _ _ _ (c.in-Ok.ensures.others work) (c.close.ensures.closes work) _ _ m
     (g.S.Sink.state c.args.sink.now).bytes (g.S.Sink.state c.held-ended.new.sink).bytes _ _ c.held-ended.result c.close.result
-    c.held-ended.ensures.well c.held-ended.ensures.causes.fault c.close.ensures.end (c.held-ended.ensures.run_report none one two work sink)
+    c.held-ended.ensures.well c.held-ended.ensures.causes.fault c.close.ensures.end (kept_early c.args.opts.now.resilient c.args.opts.now.dry_run c.held-ended.result c.close.result c.close.ensures.end f _ _ _ (c.in-Ok.ensures.others work) (c.close.ensures.closes work) (c.close.ensures.kept work)) (c.held-ended.ensures.run_report none one two work sink)
 
 pub returns-in-Err-clause-only_base : goal.returns-in-Err-clause-only_base
-returns-in-Err-clause-only_base g c none only work = (fallen_same (g.W.Work.state c.args.work.now).folder (g.W.Work.state c.enter.new.work).folder (c.in-Err.ensures.others work), λ stays. c.in-Err.ensures.others work)
+returns-in-Err-clause-only_base g c none only work = kept_unlocked _ _ _ (c.in-Err.ensures.others work)
 
 pub returns-clause-only_base : goal.returns-clause-only_base
-returns-clause-only_base g c none only work = (
-  fallen_closed _ _ _ _ (c.in-Ok.ensures.others work) (c.held-ended.ensures.compares none only work) (c.close.ensures.closes work),
-  λ stays. changes_closed (g.W.Work.state c.args.work.now).folder (g.W.Work.state c.enter.new.work).folder (g.W.Work.state c.held-ended.new.work).folder (g.W.Work.state c.close.new.work).folder (c.in-Ok.ensures.others work)
-      (c.held-ended.ensures.compares none only work) (c.close.ensures.kept work (falls_closed c.args.opts.now.resilient c.args.opts.now.dry_run c.held-ended.result c.close.result c.close.ensures.end stays)),
-)
+returns-clause-only_base g c none only work =
+    kept_early _ _ c.held-ended.result c.close.result c.close.ensures.end _ _ _ _ (c.in-Ok.ensures.others work) (c.close.ensures.closes work) (c.close.ensures.kept work) (c.held-ended.ensures.compares none only work)
 
 pub returns-clause-blocked : goal.returns-clause-blocked
 returns-clause-blocked g c work = blocked_nowhere (g.W.Work.state c.args.work.now).folder _ _ _ (c.in-Ok.ensures.free work)
@@ -402,6 +400,13 @@ pub returns-clause-set_back : goal.returns-clause-set_back
 returns-clause-set_back g c none one two work =
     old_closed c.args.limits.now _ (g.W.Work.state c.args.work.now).folder (g.W.Work.state c.enter.new.work).folder (g.W.Work.state c.held-ended.new.work).folder (g.W.Work.state c.close.new.work).folder (c.in-Ok.ensures.others work) (c.close.ensures.closes work) (by_side (g.A.Remote.state c.args.one.now) (g.B.Remote.state c.args.two.now)) (by_side (g.A.Remote.state c.held-ended.new.one) (g.B.Remote.state c.held-ended.new.two))
     (c.held-ended.ensures.set_back none one two work)
+
+pub returns-in-Err-clause-good_names : goal.returns-in-Err-clause-good_names
+returns-in-Err-clause-good_names g c none work good = locked_good c.args.limits.now.listing _ _ (c.in-Err.ensures.others work) good
+
+pub returns-clause-good_names : goal.returns-clause-good_names
+returns-clause-good_names g c none work good =
+    c.close.ensures.good_names work c.args.limits.now.listing (c.held-ended.ensures.good_names none work (locked_good c.args.limits.now.listing _ _ (c.in-Ok.ensures.others work) good))
 
 pub returns-in-Err-clause-unlocked : goal.returns-in-Err-clause-unlocked
 returns-in-Err-clause-unlocked g c work un = c.in-Err.ensures.kept work (λ is. false_true (sym (ap is_unlocked is) ∙ un))

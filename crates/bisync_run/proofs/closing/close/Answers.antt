@@ -1,5 +1,6 @@
 use Rattle.bisync_run.proofs.CloseLaws.{closes, fell_unlocked}
 use Rattle.bisync_run.proofs.ClosedKinds.{no_rise_first}
+use Rattle.bisync_run.proofs.GoodNames.{unlocked_good}
 use Rattle.bisync_run.proofs.closing.close.Goals as goal
 
 pub returns-in-Err-clause-closes : goal.returns-in-Err-clause-closes
@@ -14,3 +15,12 @@ returns-in-Err-freed-clause-closes g c t = closes _ _ _ (c.fall_where.ensures.fa
 pub returns-in-Err-clause-fell : goal.returns-in-Err-clause-fell
 returns-in-Err-clause-fell g c t falls never =
     fell_unlocked _ _ _ (c.fall_where.ensures.fell t falls (no_rise_first _ _ _ never c.free_lock-freed.ensures.cause.later)) (c.free_lock-freed.ensures.others t)
+
+pub returns-in-Err-clause-good_names : goal.returns-in-Err-clause-good_names
+returns-in-Err-clause-good_names g c t limit good = unlocked_good limit _ _ (c.free_lock-freed.ensures.others t) (c.fall_where.ensures.good_names t limit good)
+
+pub returns-in-Ok-freed-clause-good_names : goal.returns-in-Ok-freed-clause-good_names
+returns-in-Ok-freed-clause-good_names g c t limit good = unlocked_good limit _ _ (c.free_lock-freed.ensures.others t) (c.fall_where.ensures.good_names t limit good)
+
+pub returns-in-Err-freed-clause-good_names : goal.returns-in-Err-freed-clause-good_names
+returns-in-Err-freed-clause-good_names g c t limit good = unlocked_good limit _ _ (c.free_lock-freed.ensures.others t) (c.fall_where.ensures.good_names t limit good)

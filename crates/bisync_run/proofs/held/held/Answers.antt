@@ -1,5 +1,6 @@
 use Rattle.std.proofs.Common.{◌∙◌, sym, subst, OnOk}
 use Rattle.bisync_tree.specs.declared.options.Prefer.{Prefer}
+use Rattle.bisync_device.specs.Work.{KeepsFolder}
 use Rattle.bisync_model.specs.Trees.{by_side}
 use Rattle.bisync_run.specs.HeldResyncs.{TellsPlan, end_of}
 use Rattle.bisync_run.specs.Resyncs.{HasOutcome, IsResynced, LeavesBase, LeavesMix, LeavesTrees}
@@ -37,7 +38,7 @@ returns-in-Some-clause-report g c mode is one two sink =
     let a = g.A.Remote.state c.args.one.now in
     let b = g.B.Remote.state c.args.two.now in
     let now = by_side (g.A.Remote.state c.resync.new.one) (g.B.Remote.state c.resync.new.two) in
-    subst (λ (m : Prefer). TellsPlan m (sides_of c.args.opts.now.compare c.args.entered.now.rules a b) (by_side a b) now (g.S.Sink.state c.args.sink.now).bytes (g.S.Sink.state c.resync.new.sink).bytes c.resync.result)
+    subst (λ (m : Prefer). TellsPlan m (sides_of c.args.opts.now.compare c.args.entered.now.rules a b) (by_side a b) now (KeepsFolder g.W.Work.tells (g.W.Work.state c.args.work.now) (g.W.Work.state c.resync.new.work)) (g.S.Sink.state c.args.sink.now).bytes (g.S.Sink.state c.resync.new.sink).bytes c.resync.result)
     (some_same c.in-Some.mode mode (sym c.in-Some.is ∙ is)) (c.resync.ensures.report one two sink)
 
 -- # What the work folder alone tells

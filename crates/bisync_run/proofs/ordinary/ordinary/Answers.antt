@@ -6,13 +6,14 @@ use Rattle.bisync_run.specs.Counts.{counts}
 use Rattle.bisync_run.specs.LockNew.{KeepsLockNew}
 use Rattle.bisync_run.specs.Sides.{compare_in, sides_of}
 use Rattle.bisync_run.proofs.BeginningLaws.{begun_by, compared_begins, compared_begun, look_begins, start_begins, step_begins}
-use Rattle.bisync_run.proofs.BasesSetBack.{ordinary_set_back}
+use Rattle.bisync_run.proofs.BasesSetBack.{ordinary_set_back, ordinary_stands}
 use Rattle.bisync_run.proofs.CauseLaws.{fails}
 use Rattle.bisync_run.proofs.CountedRuns.{counted_since}
 use Rattle.bisync_run.proofs.DoneSteps.{looked_told}
 use Rattle.bisync_run.proofs.EndCases.{false_true, step_may_change, told_device}
 use Rattle.bisync_run.proofs.FallsAsLaws.{falls_as_held}
 use Rattle.bisync_run.proofs.FolderBases.{kept_or_next, next_in_place, ready_to}
+use Rattle.bisync_run.proofs.GoodNames.{kept_good, ordinary_good}
 use Rattle.bisync_run.proofs.HeldLaws.{untouched, same_windows, are_within}
 use Rattle.bisync_run.proofs.OrdinaryCauses.{done_same, lock_new_held, since, stopped, sunk, told_same, unsunk, well, work_same}
 use Rattle.bisync_run.proofs.OrdinaryEndCases.{compared_causes, compared_tells, device_answers, not_only, only_is, start_answers, step_kind}
@@ -32,7 +33,7 @@ returns-in-Err-clause-causes g c =
 pub returns-then-is_only-clause-report : goal.returns-then-is_only-clause-report
 returns-then-is_only-clause-report g c one two work sink =
     compared_tells (compare_in c.args.opts.now.compare (g.A.Remote.state c.args.one.now).window (g.B.Remote.state c.args.two.now).window) c.in-Ok.started.one c.in-Ok.started.two c.args.opts.now c.args.limits.now (g.W.Work.state c.args.work.now).folder _ c.args.entered.now.digest _ _
-    (only_is c.args.opts.now.check_sync (sym c.is_only.ensures ∙ c.if-is_only.true)) c.compare_base.result c.compare_base.ensures
+    (only_is c.args.opts.now.check_sync (sym c.is_only.ensures ∙ c.if-is_only.true)) (g.W.Work.state c.start.new.work).folder (c.in-Ok.ensures.folder work) c.compare_base.result c.compare_base.ensures
 
 pub returns-then-is_only-clause-causes : goal.returns-then-is_only-clause-causes
 returns-then-is_only-clause-causes g c =
@@ -201,7 +202,9 @@ returns-clause-answers g c one two work =
     let found = c.in-Err-carry_out_ordinary.ensures.found
     (planned_finds (by_side g.A.Remote.tells g.B.Remote.tells) c.args.opts.now c.args.entered.now.rules a b a2 b2 c.in-Ok.started c.in-Ok-look_ordinary.look
     (looked_told g.A.Remote.tells g.B.Remote.tells a b a2 b2 c.in-Ok-look_ordinary.ensures.one.tree c.in-Ok-look_ordinary.ensures.two.tree) windows c.in-Ok-look_ordinary.ensures.planned) in
-    device_answers c.args.opts.now c.args.limits.now (g.W.Work.state c.args.work.now).folder _ c.args.entered.now.digest c.in-Err-carry_out_ordinary.end
+    let more = not_only c.args.opts.now.check_sync (sym c.is_only.ensures ∙ c.if-is_only.false) in
+    let look = c.in-Ok-look_ordinary.ensures.look one two (g.W.Work.state c.args.work.now).folder c.args.entered.now.digest (c.in-Ok.ensures.starts work) more in
+    device_answers c.args.opts.now c.args.limits.now (g.W.Work.state c.args.work.now).folder _ c.args.entered.now.digest look.course.plans.one c.in-Err-carry_out_ordinary.end
     (told_device (by_side g.A.Remote.tells g.B.Remote.tells) one two c.in-Err-carry_out_ordinary.end c.in-Err-carry_out_ordinary.ensures.end found)
 
 pub returns-clause-lock_new : goal.returns-clause-lock_new
@@ -215,7 +218,10 @@ returns-clause-report g c one two work sink =
     let a = g.A.Remote.state c.args.one.now in let b = g.B.Remote.state c.args.two.now in let f = (g.W.Work.state c.args.work.now).folder in
     let more = not_only c.args.opts.now.check_sync (sym c.is_only.ensures ∙ c.if-is_only.false) in
     let look = c.in-Ok-look_ordinary.ensures.look one two f c.args.entered.now.digest (c.in-Ok.ensures.starts work) more in
-    inr (inr (step_may_change c.in-Err-carry_out_ordinary.end c.in-Err-carry_out_ordinary.ensures.end, told_held c.args.opts.now c.args.limits.now c.args.entered.now.rules c.args.entered.now.digest a b f c.in-Ok.started.stamp c.in-Ok.started.pair c.in-Ok-look_ordinary.look look (g.S.Sink.state c.args.sink.now).bytes (g.S.Sink.state c.plan_lines.new.sink).bytes (c.in-Ok-plan_lines.ensures.bytes sink)))
+    let stands = ordinary_stands c.args.opts.now c.args.limits.now _ c.args.entered.now.digest f (g.W.Work.state c.start.new.work).folder (c.in-Ok.ensures.folder work) c.in-Ok.started (c.in-Ok.ensures.starts work) c.in-Ok-look_ordinary.look
+    c.in-Ok-look_ordinary.ensures.compare (omega arith) (are_within c.args.limits.now (prepared_of c.in-Ok.started.stamp c.in-Ok-look_ordinary.look) c.in-Ok-look_ordinary.ensures.within1 c.in-Ok-look_ordinary.ensures.within2)
+    c.in-Err-carry_out_ordinary.end (g.W.Work.state c.carry_out_ordinary.new.work).folder (c.in-Err-carry_out_ordinary.ensures.stands work) in
+    inr (inr (step_may_change c.in-Err-carry_out_ordinary.end c.in-Err-carry_out_ordinary.ensures.end, stands, told_held c.args.opts.now c.args.limits.now c.args.entered.now.rules c.args.entered.now.digest a b f c.in-Ok.started.stamp c.in-Ok.started.pair c.in-Ok-look_ordinary.look look (g.S.Sink.state c.args.sink.now).bytes (g.S.Sink.state c.plan_lines.new.sink).bytes (c.in-Ok-plan_lines.ensures.bytes sink)))
 
 pub returns-clause-told : goal.returns-clause-told
 returns-clause-told g c =
@@ -241,7 +247,7 @@ returns-in_default-clause-trees g c one two work =
 
 pub returns-in_default-clause-report : goal.returns-in_default-clause-report
 returns-in_default-clause-report g c one two work sink =
-    inr (inl (refl, untouched _ _ _ _ (c.in-Ok-look_ordinary.ensures.one.tree one) (c.in-Ok-look_ordinary.ensures.two.tree two)))
+    inr (inl (refl, untouched _ _ _ _ (c.in-Ok-look_ordinary.ensures.one.tree one) (c.in-Ok-look_ordinary.ensures.two.tree two), c.in-Ok.ensures.folder work))
 
 pub returns-then-opts-clause-trees : goal.returns-then-opts-clause-trees
 returns-then-opts-clause-trees g c one two work =
@@ -377,3 +383,42 @@ returns-clause-set_back g c one two work =
 
 pub returns-in-Ok-carry_out_ordinary-clause-counted : goal.returns-in-Ok-carry_out_ordinary-clause-counted
 returns-in-Ok-carry_out_ordinary-clause-counted g c = counted_since g.A.Remote.tells g.B.Remote.tells (g.A.Remote.state c.args.one.now) (g.B.Remote.state c.args.two.now) (g.A.Remote.state c.look_ordinary.new.one) (g.B.Remote.state c.look_ordinary.new.two) c.in-Ok-look_ordinary.ensures.one.tree c.in-Ok-look_ordinary.ensures.two.tree (by_side (g.A.Remote.state c.carry_out_ordinary.new.one) (g.B.Remote.state c.carry_out_ordinary.new.two)) c.in-Ok-carry_out_ordinary.changes.one c.in-Ok-carry_out_ordinary.changes.two c.in-Ok-carry_out_ordinary.ensures.counted
+
+pub returns-in-Ok-carry_out_ordinary-clause-good_names : goal.returns-in-Ok-carry_out_ordinary-clause-good_names
+returns-in-Ok-carry_out_ordinary-clause-good_names g c work =
+    ordinary_good c.args.opts.now c.args.limits.now _ c.args.entered.now.digest (g.W.Work.state c.args.work.now).folder (g.W.Work.state c.start.new.work).folder (c.in-Ok.ensures.folder work) c.in-Ok.started (c.in-Ok.ensures.starts work) c.in-Ok-look_ordinary.look
+    c.in-Ok-look_ordinary.ensures.compare (omega arith) (are_within c.args.limits.now (prepared_of c.in-Ok.started.stamp c.in-Ok-look_ordinary.look) c.in-Ok-look_ordinary.ensures.within1 c.in-Ok-look_ordinary.ensures.within2)
+    (g.W.Work.state c.carry_out_ordinary.new.work).folder (c.in-Ok-carry_out_ordinary.ensures.good_names work)
+
+pub returns-clause-good_names : goal.returns-clause-good_names
+returns-clause-good_names g c work =
+    ordinary_good c.args.opts.now c.args.limits.now _ c.args.entered.now.digest (g.W.Work.state c.args.work.now).folder (g.W.Work.state c.start.new.work).folder (c.in-Ok.ensures.folder work) c.in-Ok.started (c.in-Ok.ensures.starts work) c.in-Ok-look_ordinary.look
+    c.in-Ok-look_ordinary.ensures.compare (omega arith) (are_within c.args.limits.now (prepared_of c.in-Ok.started.stamp c.in-Ok-look_ordinary.look) c.in-Ok-look_ordinary.ensures.within1 c.in-Ok-look_ordinary.ensures.within2)
+    (g.W.Work.state c.carry_out_ordinary.new.work).folder (c.in-Err-carry_out_ordinary.ensures.good_names work)
+
+pub returns-in_default-clause-set_back : goal.returns-in_default-clause-set_back
+returns-in_default-clause-set_back g c one two work before is = inl (untouched _ _ _ _ (c.in-Ok-look_ordinary.ensures.one.tree one) (c.in-Ok-look_ordinary.ensures.two.tree two))
+
+pub returns-in-Err-plan_lines-clause-set_back : goal.returns-in-Err-plan_lines-clause-set_back
+returns-in-Err-plan_lines-clause-set_back g c one two work before is = inl (untouched _ _ _ _ (c.in-Ok-look_ordinary.ensures.one.tree one) (c.in-Ok-look_ordinary.ensures.two.tree two))
+
+pub returns-then-opts-clause-set_back : goal.returns-then-opts-clause-set_back
+returns-then-opts-clause-set_back g c one two work before is = inl (untouched _ _ _ _ (c.in-Ok-look_ordinary.ensures.one.tree one) (c.in-Ok-look_ordinary.ensures.two.tree two))
+
+pub returns-in-Err-clause-good_names : goal.returns-in-Err-clause-good_names
+returns-in-Err-clause-good_names g c work = kept_good c.args.limits.now _ _ (c.start.ensures.folder work)
+
+pub returns-then-is_only-clause-good_names : goal.returns-then-is_only-clause-good_names
+returns-then-is_only-clause-good_names g c work = kept_good c.args.limits.now _ _ (c.start.ensures.folder work)
+
+pub returns-in-Err-look_ordinary-clause-good_names : goal.returns-in-Err-look_ordinary-clause-good_names
+returns-in-Err-look_ordinary-clause-good_names g c work = kept_good c.args.limits.now _ _ (c.start.ensures.folder work)
+
+pub returns-in_default-clause-good_names : goal.returns-in_default-clause-good_names
+returns-in_default-clause-good_names g c work = kept_good c.args.limits.now _ _ (c.start.ensures.folder work)
+
+pub returns-in-Err-plan_lines-clause-good_names : goal.returns-in-Err-plan_lines-clause-good_names
+returns-in-Err-plan_lines-clause-good_names g c work = kept_good c.args.limits.now _ _ (c.start.ensures.folder work)
+
+pub returns-then-opts-clause-good_names : goal.returns-then-opts-clause-good_names
+returns-then-opts-clause-good_names g c work = kept_good c.args.limits.now _ _ (c.start.ensures.folder work)

@@ -5,6 +5,7 @@ use Rattle.bisync_run.proofs.BasesSetBack.{old_past, old_or_next}
 use Rattle.bisync_run.proofs.DoneSteps.{untouched_same}
 use Rattle.bisync_run.proofs.EndLaws.{rose_since}
 use Rattle.bisync_run.proofs.FallsAsLaws.{falls_as_twice, lock_falls_as, never_rose}
+use Rattle.bisync_run.proofs.GoodNames.{locked_good, switched_good}
 use Rattle.bisync_run.proofs.LockedFolders.{base_past}
 use Rattle.bisync_run.proofs.OwnLocks.{own_around}
 use Rattle.bisync_run.proofs.NextSet.{keeps_or_next, settled_after}
@@ -80,6 +81,33 @@ pub returns-clause-set_back : goal.returns-clause-set_back
 returns-clause-set_back g c one two work limit before is =
     inr (old_or_next limit (g.W.Work.state c.write_ordinary.new.work).folder (g.W.Work.state c.do_steps.new.work).folder (g.W.Work.state c.switch.new.work).folder before c.args.prepared is.small
     (c.in-Ok.ensures.set_back work limit before is) (c.do_steps.ensures.lock work) (c.switch.ensures.switches work))
+
+pub returns-in-Err-clause-stands : goal.returns-in-Err-clause-stands
+returns-in-Err-clause-stands g c work limit before is side = absurd side
+
+pub returns-in-Err-do_steps-clause-stands : goal.returns-in-Err-do_steps-clause-stands
+returns-in-Err-do_steps-clause-stands g c work limit before is side =
+    old_past limit (g.W.Work.state c.write_ordinary.new.work).folder (g.W.Work.state c.do_steps.new.work).folder before c.args.prepared (c.in-Ok.ensures.set_back work limit before is) (c.do_steps.ensures.lock work)
+
+pub returns-clause-stands : goal.returns-clause-stands
+returns-clause-stands g c work limit before is side = absurd side
+
+pub returns-in-Err-clause-good_names : goal.returns-in-Err-clause-good_names
+returns-in-Err-clause-good_names g c work limit before is = c.write_ordinary.ensures.good_names work limit
+
+pub returns-in-Err-do_steps-clause-good_names : goal.returns-in-Err-do_steps-clause-good_names
+returns-in-Err-do_steps-clause-good_names g c work limit before is good =
+    locked_good limit (g.W.Work.state c.write_ordinary.new.work).folder (g.W.Work.state c.do_steps.new.work).folder (c.do_steps.ensures.lock work) (c.write_ordinary.ensures.good_names work limit good)
+
+pub returns-in-Ok-switch-clause-good_names : goal.returns-in-Ok-switch-clause-good_names
+returns-in-Ok-switch-clause-good_names g c work limit before is good =
+    switched_good limit (g.W.Work.state c.write_ordinary.new.work).folder (g.W.Work.state c.do_steps.new.work).folder (g.W.Work.state c.switch.new.work).folder before c.args.prepared
+    (c.in-Ok.ensures.set_back work limit before is) (c.do_steps.ensures.lock work) (c.switch.ensures.begun work) (c.write_ordinary.ensures.good_names work limit good)
+
+pub returns-clause-good_names : goal.returns-clause-good_names
+returns-clause-good_names g c work limit before is good =
+    switched_good limit (g.W.Work.state c.write_ordinary.new.work).folder (g.W.Work.state c.do_steps.new.work).folder (g.W.Work.state c.switch.new.work).folder before c.args.prepared
+    (c.in-Ok.ensures.set_back work limit before is) (c.do_steps.ensures.lock work) (c.switch.ensures.begun work) (c.write_ordinary.ensures.good_names work limit good)
 
 -- # A fall to come
 

@@ -149,7 +149,7 @@ returns-clause-answers g c one two work =
     let found = c.in-Err-carry_out.ensures.found
     (finds_held (by_side g.A.Remote.tells g.B.Remote.tells) c.args.mode c.args.opts.now.compare c.args.entered.now.rules a b a2 b2 c.in-Ok.prepared
     (looked_told g.A.Remote.tells g.B.Remote.tells a b a2 b2 c.in-Ok.ensures.one.tree c.in-Ok.ensures.two.tree) windows c.in-Ok.ensures.over) in
-    device_answers c.args.mode c.args.limits.now (g.W.Work.state c.args.work.now).folder _ c.in-Err-carry_out.end
+    device_answers c.args.mode c.args.limits.now (g.W.Work.state c.args.work.now).folder _ (c.in-Ok.ensures.accepted one two work).one c.in-Err-carry_out.end
     (told_device (by_side g.A.Remote.tells g.B.Remote.tells) one two c.in-Err-carry_out.end c.in-Err-carry_out.ensures.end found)
 
 pub returns-clause-told : goal.returns-clause-told

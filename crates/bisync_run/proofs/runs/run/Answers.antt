@@ -23,6 +23,7 @@ use Rattle.bisync_run.proofs.OrdinaryTold.{ordinary_told, resilient_images, run_
 use Rattle.bisync_run.proofs.SafeRuns.{keeps_safe}
 use Rattle.bisync_run.proofs.ToldEnds.{after_good_told, good_told, told_same, answers_told, images}
 use Rattle.bisync_run.proofs.ToldGrounds.{last_told}
+use Rattle.bisync_run.proofs.GoodNames.{good_left}
 use Rattle.bisync_run.proofs.runs.run.Goals as goal
 
 pub returns-clause-answers : goal.returns-clause-answers
@@ -174,8 +175,8 @@ returns-clause-report g c mode is one two sink work never =
     let after = g.S.Sink.state c.tell_end.new.sink in
     let still = no_rise_since before.faults mid.faults after.faults never c.run_to_close-end.ensures.later.sink in
     let told = told_same c.run_to_close-end.result c.tell_end.result mid.faults after.faults c.tell_end.ensures.end c.tell_end.ensures.failed still in
-    (subst (λ (e : End). TellsRun mode c.args.opts.now f start now before.bytes (last_text e) after.bytes e) (sym told)
-    (tells_last mode c.args.opts.now f start now before.bytes mid.bytes after.bytes (last_text c.run_to_close-end.result) c.run_to_close-end.result
+    (subst (λ (e : End). TellsRun mode c.args.opts.now g.W.Work.tells f start h now before.bytes (last_text e) after.bytes e) (sym told)
+    (tells_last mode c.args.opts.now g.W.Work.tells f start h now before.bytes mid.bytes after.bytes (last_text c.run_to_close-end.result) c.run_to_close-end.result
     (c.run_to_close-end.ensures.report mode is one two sink work) (c.tell_end.ensures.bytes sink still)))
 
 -- # An ordinary run
@@ -253,14 +254,15 @@ pub returns-clause-run_report : goal.returns-clause-run_report
 returns-clause-run_report g c none one two work sink never =
     let f = (g.W.Work.state c.args.work.now).folder in
     let start = by_side (g.A.Remote.state c.args.one.now) (g.B.Remote.state c.args.two.now) in
+    let h = (g.W.Work.state c.run_to_close-end.new.work).folder in
     let now = by_side (g.A.Remote.state c.run_to_close-end.new.one) (g.B.Remote.state c.run_to_close-end.new.two) in
     let before = g.S.Sink.state c.args.sink.now in
     let mid = g.S.Sink.state c.run_to_close-end.new.sink in
     let after = g.S.Sink.state c.tell_end.new.sink in
     let still = no_rise_since before.faults mid.faults after.faults never c.run_to_close-end.ensures.later.sink in
     let told = told_same c.run_to_close-end.result c.tell_end.result mid.faults after.faults c.tell_end.ensures.end c.tell_end.ensures.failed still in
-    subst (λ (e : End). TellsOrdinaryRun c.args.opts.now c.args.limits.now f start now before.bytes (last_text e) after.bytes e) (sym told)
-    (run_tells_last c.args.opts.now c.args.limits.now f start now before.bytes mid.bytes after.bytes (last_text c.run_to_close-end.result) c.run_to_close-end.result
+    subst (λ (e : End). TellsOrdinaryRun c.args.opts.now c.args.limits.now f start h now before.bytes (last_text e) after.bytes e) (sym told)
+    (run_tells_last c.args.opts.now c.args.limits.now f start h now before.bytes mid.bytes after.bytes (last_text c.run_to_close-end.result) c.run_to_close-end.result
     (c.run_to_close-end.ensures.run_report none one two work sink) (c.tell_end.ensures.bytes sink still))
 
 pub returns-clause-only_base : goal.returns-clause-only_base
@@ -355,6 +357,10 @@ returns-clause-counted2 g c tells first second is =
     let start = by_side (g.A.Remote.state c.args.one.now) (g.B.Remote.state c.args.two.now) in
     let now = by_side (g.A.Remote.state c.run_to_close-end.new.one) (g.B.Remote.state c.run_to_close-end.new.two) in
     counted_told (by_side g.A.Remote.tells g.B.Remote.tells) start now c.run_to_close-end.result c.tell_end.result c.tell_end.ensures.end c.run_to_close-end.ensures.counted first second is Two tells
+
+pub returns-clause-good_names : goal.returns-clause-good_names
+returns-clause-good_names g c none work left is =
+    good_left c.args.limits.now (g.W.Work.state c.args.work.now).folder (g.W.Work.state c.run_to_close-end.new.work).folder left (c.run_to_close-end.ensures.good_names none work) (c.run_to_close-end.ensures.settled work) is
 
 pub returns-clause-set_back : goal.returns-clause-set_back
 returns-clause-set_back g c none one two work left is =

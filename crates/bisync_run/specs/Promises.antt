@@ -1,14 +1,22 @@
--- What a run promises, by the names that the top call's contract uses.
+-- What a run promises, by the names that its contract and that of the top call use.
+pub use Rattle.bisync_tree.specs.Rows.{PathBytes}
+pub use Rattle.bisync_tree.specs.declared.entries.Entry.{Entry}
+pub use Rattle.bisync_model.specs.Trees.{by_side}
+pub use Rattle.bisync_device.specs.Remote.{KeepsTree}
+pub use Rattle.bisync_device.specs.WorkFolder.{Absent, WorkFolder, IsSettled, IsImage}
+pub use Rattle.bisync_work.specs.Locks.{ChangesLock, IsFree, KeepsBlocking}
+pub use Rattle.bisync_work.specs.Moves.{IsFallen}
 pub use Rattle.bisync_run.specs.Agreement.{LeavesInSync, LeavesResyncInSync, WasApartBefore}
 pub use Rattle.bisync_run.specs.Beginnings.{AnswersBeginningOf, IsWellBegunOf}
 pub use Rattle.bisync_run.specs.Closing.{HasNoListings, but_fallen_or_lock}
 pub use Rattle.bisync_run.specs.Counts.{counts, Later, Ends}
-pub use Rattle.bisync_run.specs.EndKinds.{is_after_good, is_good, has_freed, is_before_lock, is_unlocked, lets_fall, may_have_changed, may_tell_plan}
+pub use Rattle.bisync_run.specs.EndKinds.{is_good, is_after_good, has_freed, is_before_lock, is_unlocked, lets_fall, may_have_changed, may_tell_plan}
 pub use Rattle.bisync_run.specs.Entering.{AtMoment, HasSomeRules, IsEntryEnd, IsHeldBack}
 pub use Rattle.bisync_run.specs.FilterRules.{KnowsRules}
 pub use Rattle.bisync_run.specs.FolderBases.{LeavesFolderBase, LeavesNextInPlace, Writes, compared}
 pub use Rattle.bisync_run.specs.Grounds.{HasGrounds, IsTold}
-pub use Rattle.bisync_run.specs.LeftNames.{KeepsButFallen, LeavesBaseSetBack, LeavesOwnLock, MayBeLeft, StaysOrFell, StoresDigestOf}
+pub use Rattle.bisync_run.specs.KeptNames.{KeepsButFallen, KeepsGoodNames}
+pub use Rattle.bisync_run.specs.LeftNames.{LeavesBaseSetBack, LeavesOwnLock, MayBeLeft, StaysOrFell, StoresDigestOf}
 pub use Rattle.bisync_run.specs.LockNew.{KeepsLockNew}
 pub use Rattle.bisync_run.specs.Ordinary.{KeepsOrdinaryRest}
 pub use Rattle.bisync_run.specs.OrdinaryEnds.{IsOrdinaryEnd}

@@ -1,0 +1,39 @@
+-- Which names of its work folder a run keeps.
+use Rattle.std.specs.Prelude.{◌≡◌, ◌⊎◌, ℕ, Bool, false, Some, None, ⊤}
+use Rattle.bisync_tree.specs.declared.options.Limits.{Limits}
+use Rattle.bisync_device.specs.WorkFolder.{WorkFolder}
+use Rattle.bisync_work.specs.declared.bases.Pair.TheVariants.{Old}
+use Rattle.bisync_work.specs.BadNames.{IsFirstBad, base_names}
+use Rattle.bisync_work.specs.Base.{Base, HasBaseIn, IsBase, HasNoBase}
+use Rattle.bisync_work.specs.Locks.{ChangesLock}
+use Rattle.bisync_report.specs.declared.ends.End.{End}
+use Rattle.bisync_report.specs.declared.ends.End.TheVariants.{RemoteFault, Moved}
+use Rattle.bisync_run.specs.Closing.{but_fallen_or_lock}
+
+-- # A run that made no change of its own
+
+-- only the names that fall changed, and none but the lock where nothing falls
+abbrev pub KeepsButFallen : Bool → WorkFolder → WorkFolder → Type 0
+KeepsButFallen falls f g = (but_fallen_or_lock g ≡ but_fallen_or_lock f) × (falls ≡ false → ChangesLock f g)
+
+-- # The listings of a base
+
+-- each name of a base has a listing, or nothing
+abbrev pub HasGoodNames : ℕ → WorkFolder → Type 0
+HasGoodNames limit f = IsFirstBad limit f base_names None
+
+-- where each has, each still does
+abbrev pub KeepsGoodNames : Limits → WorkFolder → WorkFolder → Type 0
+KeepsGoodNames limits f g = HasGoodNames limits.listing f → HasGoodNames limits.listing g
+
+-- # The base that an ordinary run set back
+
+-- a side's device failed, or a file of it is another than it was listed
+abbrev pub IsSideEnd : End → Type 0
+IsSideEnd (RemoteFault side) = ⊤
+IsSideEnd (Moved side path listed read) = ⊤
+IsSideEnd end = ⊥
+
+-- where such an end comes after the report, the base before stands under the -old names, or the listings fell
+abbrev pub StandsSetBack : Limits → End → WorkFolder → WorkFolder → Type 0
+StandsSetBack limits end f g = IsSideEnd end → (before : Base) → IsBase limits.listing f (Some before) → HasBaseIn limits.listing g Old before ⊎ HasNoBase limits.listing g
