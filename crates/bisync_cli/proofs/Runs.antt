@@ -62,8 +62,8 @@ folder_images_same (Err kind) Works limits f start end = tt
 
 -- names of a base that have listings, or nothing, still do
 pub good_names_same : (read : Result Task UsageKind) (Works : Type 0) (limits : Limits) (f : WorkFolder)
-    → OfTask read (λ opts. opts.resync ≡ None → Works → (left : WorkFolder) → MayBeLeft f f left → KeepsGoodNames limits f left)
-good_names_same (Ok (Run opts)) Works limits f = λ none work left may. good_left limits f f left (λ good. good) (λ settled. settled) may
+    → OfTask read (λ opts. Works → (left : WorkFolder) → MayBeLeft f f left → KeepsGoodNames limits f left)
+good_names_same (Ok (Run opts)) Works limits f = λ work left may. good_left limits f f left (λ good. good) (λ settled. settled) may
 good_names_same (Ok NoTask) Works limits f = tt
 good_names_same (Err kind) Works limits f = tt
 
@@ -71,7 +71,7 @@ good_names_same (Err kind) Works limits f = tt
 pub safe_same : (read : Result Task UsageKind) (One Two Works : Type 0) (limits : Limits) → limits.listing < 2 ^ 64 → (f : WorkFolder) (start : Remotes)
     → OfTask read (λ opts. opts.resync ≡ None → One → Two → Works → IsSettled f → (image : WorkFolder) → IsImage f image → KeepsSafe opts limits f start image start)
 safe_same (Ok (Run opts)) One Two Works limits small f start = λ none one two work settled image image_is.
-    keeps_safe opts limits small f start false (pos 0) image start (λ base was. inl ((image_keeps limits.listing f image settled image_is).base base was)) (inl (untouched_same start))
+    keeps_safe opts limits small f start false (pos 0) OutOfMemory f image start (λ base was. inl ((image_keeps limits.listing f image settled image_is).base base was)) (inl (untouched_same start, (refl, λ stays. record { rest = refl })))
 safe_same (Ok NoTask) One Two Works limits small f start = tt
 safe_same (Err kind) One Two Works limits small f start = tt
 

@@ -11,9 +11,9 @@ use Rattle.bisync_report.specs.declared.ends.End.{End}
 use Rattle.bisync_work.specs.Locks.{ChangesLock}
 use Rattle.bisync_run.specs.Closing.{ClosesWith, Unlocks}
 use Rattle.bisync_run.specs.Counts.{Counts, Stops}
-use Rattle.bisync_run.specs.EndKinds.{is_good, is_after_good, is_sink_fault, lets_fall, may_have_changed, may_tell_plan, falls_at_close}
+use Rattle.bisync_run.specs.EndKinds.{is_good, is_after_good, is_sink_fault, may_have_changed, may_tell_plan, falls_at_close}
 use Rattle.bisync_run.specs.HeldResyncs.{end_of, IsGoodEndOf, TellsPlan}
-use Rattle.bisync_run.specs.KeptNames.{KeepsButFallen}
+use Rattle.bisync_run.specs.KeptNames.{KeepsOwn}
 use Rattle.bisync_run.specs.ResyncRefusals.{AnswersResync, HasNoResyncRefusal}
 use Rattle.bisync_run.specs.ResyncRuns.{Matter, sides_in, TellsRun}
 use Rattle.bisync_run.specs.Resyncs.{resync_lines}
@@ -78,32 +78,32 @@ or_first a b is = ap (λ (x : Bool). x || b) is
 
 -- # What was told
 
-module _ (mode : Prefer) (opts : Opts) (tells : Bool) (f h : WorkFolder) (start now : Remotes) (m : Matter opts f start) (IsKept : Type 0) (before after : List ℕ) where
+module _ (mode : Prefer) (opts : Opts) (limits : Limits) (tells : Bool) (f h : WorkFolder) (start now : Remotes) (m : Matter opts f start) (IsKept IsAccepted : Type 0) (before after : List ℕ) where
   told : after ≡ before ++ resync_lines mode (sides_in m) → after ≡ (before ++ resync_lines mode (sides_in m)) ++ []
   told lines = lines ∙ sym (append-nil (before ++ resync_lines mode (sides_in m)))
 
   pub tells_closed : (old new : Counts) (ended : Result End End) (closed : End) → IfOk ended (λ end. is_good end ≡ true) → IfErr ended (Stops old new) → ClosesWith ended closed
-      → (IsKept → IsTrue tells → KeepsButFallen (lets_fall opts.resilient opts.dry_run closed) f h) → TellsPlan mode (sides_in m) start now IsKept before after ended
-      → TellsRun mode opts tells f start h now before [] after closed
-  tells_closed old new (Ok end) closed well stops (inl same) early lines =
-      inr (inr (ap may_tell_plan same ∙ or_true (may_have_changed end) (is_good end) well, (m, told lines)))
-  tells_closed old new (Ok end) closed well stops (inr stays) early lines = inr (inr (ap may_tell_plan stays, (m, told lines)))
-  tells_closed old new (Err end) closed well stops same early (inl failed) = inl (ap is_sink_fault same ∙ failed)
-  tells_closed old new (Err end) closed well stops same early (inr (inl (quiet, untouched, kept))) =
+      → (IsKept → IsTrue tells → KeepsOwn opts closed f h) → (IsAccepted → IsTrue tells → HasNoResyncRefusal mode limits f (sides_in m)) → TellsPlan mode (sides_in m) start now IsKept IsAccepted before after ended
+      → TellsRun mode opts limits tells f start h now before [] after closed
+  tells_closed old new (Ok end) closed well stops (inl same) early ok (accepted, lines) =
+      inr (inr (ap may_tell_plan same ∙ or_true (may_have_changed end) (is_good end) well, (m, ok accepted, told lines)))
+  tells_closed old new (Ok end) closed well stops (inr stays) early ok (accepted, lines) = inr (inr (ap may_tell_plan stays, (m, ok accepted, told lines)))
+  tells_closed old new (Err end) closed well stops same early ok (inl failed) = inl (ap is_sink_fault same ∙ failed)
+  tells_closed old new (Err end) closed well stops same early ok (inr (inl (quiet, untouched, kept))) =
       inr (inl (ap is_after_good same ∙ bool_cases (is_after_good end) (stops_not_after_good old new end stops), quiet ∙ sym (append-nil before), untouched, early kept))
-  tells_closed old new (Err end) closed well stops same early (inr (inr (may, lines))) =
-      inr (inr (ap may_tell_plan same ∙ or_first (may_have_changed end) (is_good end) may, (m, told lines)))
+  tells_closed old new (Err end) closed well stops same early ok (inr (inr (may, accepted, lines))) =
+      inr (inr (ap may_tell_plan same ∙ or_first (may_have_changed end) (is_good end) may, (m, ok accepted, told lines)))
 
 -- a run that didn't get the lock told nothing
-pub tells_unlocked : (mode : Prefer) (opts : Opts) (tells : Bool) (f : WorkFolder) (start : Remotes) (g : WorkFolder) (before : List ℕ) (end : End) → (is_after_good end ≡ true → ⊥) → AreUntouched start start
-    → (IsTrue tells → KeepsButFallen (lets_fall opts.resilient opts.dry_run end) f g) → TellsRun mode opts tells f start g start before [] before end
-tells_unlocked mode opts tells f start g before end never untouched kept = inr (inl (bool_cases (is_after_good end) never, sym (append-nil before), untouched, kept))
+pub tells_unlocked : (mode : Prefer) (opts : Opts) (limits : Limits) (tells : Bool) (f : WorkFolder) (start : Remotes) (g : WorkFolder) (before : List ℕ) (end : End) → (is_after_good end ≡ true → ⊥) → AreUntouched start start
+    → (IsTrue tells → KeepsOwn opts end f g) → TellsRun mode opts limits tells f start g start before [] before end
+tells_unlocked mode opts limits tells f start g before end never untouched kept = inr (inl (bool_cases (is_after_good end) never, sym (append-nil before), untouched, kept))
 
 -- the last line stands behind what was told before it
-pub tells_last : (mode : Prefer) (opts : Opts) (tells : Bool) (f : WorkFolder) (start : Remotes) (g : WorkFolder) (now : Remotes) (before mid after last : List ℕ) (end : End)
-    → TellsRun mode opts tells f start g now before [] mid end → after ≡ mid ++ last → TellsRun mode opts tells f start g now before last after end
-tells_last mode opts tells f start g now before mid after last end (inl failed) added = inl failed
-tells_last mode opts tells f start g now before mid after last end (inr (inl (bad, quiet, untouched, kept))) added =
+pub tells_last : (mode : Prefer) (opts : Opts) (limits : Limits) (tells : Bool) (f : WorkFolder) (start : Remotes) (g : WorkFolder) (now : Remotes) (before mid after last : List ℕ) (end : End)
+    → TellsRun mode opts limits tells f start g now before [] mid end → after ≡ mid ++ last → TellsRun mode opts limits tells f start g now before last after end
+tells_last mode opts limits tells f start g now before mid after last end (inl failed) added = inl failed
+tells_last mode opts limits tells f start g now before mid after last end (inr (inl (bad, quiet, untouched, kept))) added =
     inr (inl (bad, added ∙ ap (λ (l : List ℕ). l ++ last) (quiet ∙ append-nil before), untouched, kept))
-tells_last mode opts tells f start g now before mid after last end (inr (inr (may, (m, lines)))) added =
-    inr (inr (may, (m, added ∙ ap (λ (l : List ℕ). l ++ last) (lines ∙ append-nil (before ++ resync_lines mode (sides_in m))))))
+tells_last mode opts limits tells f start g now before mid after last end (inr (inr (may, (m, accepted, lines)))) added =
+    inr (inr (may, (m, accepted, added ∙ ap (λ (l : List ℕ). l ++ last) (lines ∙ append-nil (before ++ resync_lines mode (sides_in m))))))

@@ -16,7 +16,7 @@ use Rattle.bisync_run.specs.Counts.{Counts, Stops}
 use Rattle.bisync_run.specs.EndKinds.{is_good, is_after_good, has_freed, is_before_lock, is_unlocked, lets_fall, falls_at_close, may_have_changed, may_tell_plan}
 use Rattle.bisync_run.specs.FilterRules.{AreRulesOf}
 use Rattle.bisync_run.specs.HeldResyncs.{end_of}
-use Rattle.bisync_run.specs.KeptNames.{KeepsButFallen}
+use Rattle.bisync_run.specs.KeptNames.{KeepsButFallen, KeepsOwn}
 use Rattle.bisync_run.specs.LockNew.{KeepsLockNew}
 use Rattle.bisync_run.specs.ResyncEnds.{IsResyncEnd}
 use Rattle.bisync_run.specs.ResyncRuns.{AreSetAsideBy}
@@ -134,6 +134,9 @@ fell_told resilient dry_run end last (inr lost) fell = false_true (sym (ap (lets
 pub unfallen_told : (resilient dry_run : Bool) (end last : End) → EndsWith end last → lets_fall resilient dry_run last ≡ false → lets_fall resilient dry_run end ≡ false
 unfallen_told resilient dry_run end last (inl same) stays = ap (lets_fall resilient dry_run) (sym same) ∙ stays
 unfallen_told resilient dry_run end last (inr lost) stays = false_from_ne_true (lets_fall resilient dry_run end) (good_stays resilient dry_run end lost.0)
+
+pub kept_told : (opts : Opts) (end last : End) (f g : WorkFolder) → EndsWith end last → KeepsOwn opts end f g → KeepsOwn opts last f g
+kept_told opts end last f g is kept = (kept.0, λ stays. kept.1 (unfallen_told opts.resilient opts.dry_run end last is stays))
 
 pub freed_told : (end last : End) → EndsWith end last → has_freed last ≡ true → has_freed end ≡ true
 freed_told end last (inl same) freed = ap has_freed (sym same) ∙ freed

@@ -5,6 +5,8 @@ use Rattle.bisync_device.specs.Faults.{Rose}
 use Rattle.bisync_device.specs.Remote.{KeepsTree, RemoteState}
 use Rattle.bisync_device.specs.WorkFolder.{Held, Absent, Kept, Loose, WorkFolder}
 use Rattle.bisync_device.specs.declared.works.WorkName.TheVariants as name
+use Rattle.bisync_filter.specs.declared.rule_lists.Rule.{Rule}
+use Rattle.bisync_opts.specs.declared.options.Opts.{Opts}
 use Rattle.bisync_work.specs.declared.bases.Pair.{Pair}
 use Rattle.bisync_work.specs.declared.bases.Pair.TheVariants.{Current, Mixed, Old}
 use Rattle.bisync_work.specs.Locks.{ChangesLock}
@@ -13,10 +15,11 @@ use Rattle.bisync_work.specs.NewListings.{but_new}
 use Rattle.bisync_work.specs.Renames.{after_renames, back_renames}
 use Rattle.bisync_work.proofs.RenameLaws.{over, renamed_over}
 use Rattle.bisync_report.specs.declared.ends.End.{End}
-use Rattle.bisync_run.specs.Closing.{ClosesWith, Unlocks}
+use Rattle.bisync_run.specs.Closing.{Closes, ClosesWith, Unlocks}
 use Rattle.bisync_run.specs.EndKinds.{falls_at_close, is_after_good, is_good}
-use Rattle.bisync_run.specs.LeftNames.{FallsAs, StaysOrFell}
-use Rattle.bisync_run.specs.ResyncWriting.{AreRewritten}
+use Rattle.bisync_run.specs.FilterRules.{AreRulesOf}
+use Rattle.bisync_run.specs.LeftNames.{FallsAs, FellWith, StaysOrFell, StoresRules}
+use Rattle.bisync_run.specs.ResyncWriting.{AreRewritten, stored}
 use Rattle.bisync_run.proofs.CloseLaws.{fell_before, fell_past}
 use Rattle.bisync_run.proofs.ClosedEnds.{changes_closed}
 use Rattle.bisync_run.proofs.EndCases.{false_true, good_is_after_good}
@@ -77,15 +80,18 @@ rewritten_falls_as f g is = record {
   two = moved_nothing g.two g.two_old g.two_err _ is.two is.two_old is.two_err;
 }
 
-pub rewritten_fell : {digest : Option (List ℕ)} (f g h : WorkFolder) → AreRewritten digest f g → ChangesLock g h → IsFallen f h
-rewritten_fell f g h is lock = record {
-  one = ap (λ (w : WorkFolder). w.one) lock.rest ∙ is.one;
-  two = ap (λ (w : WorkFolder). w.two) lock.rest ∙ is.two;
-  one_old = ap (λ (w : WorkFolder). w.one_old) lock.rest ∙ is.one_old;
-  two_old = ap (λ (w : WorkFolder). w.two_old) lock.rest ∙ is.two_old;
-  one_err = ap (λ (w : WorkFolder). w.one_err) lock.rest ∙ is.one_err;
-  two_err = ap (λ (w : WorkFolder). w.two_err) lock.rest ∙ is.two_err;
-}
+pub rewritten_fell : {digest : Option (List ℕ)} (f g h : WorkFolder) → AreRewritten digest f g → ChangesLock g h → FellWith digest f h
+rewritten_fell f g h is lock = (
+  record {
+    one = ap (λ (w : WorkFolder). w.one) lock.rest ∙ is.one;
+    two = ap (λ (w : WorkFolder). w.two) lock.rest ∙ is.two;
+    one_old = ap (λ (w : WorkFolder). w.one_old) lock.rest ∙ is.one_old;
+    two_old = ap (λ (w : WorkFolder). w.two_old) lock.rest ∙ is.two_old;
+    one_err = ap (λ (w : WorkFolder). w.one_err) lock.rest ∙ is.one_err;
+    two_err = ap (λ (w : WorkFolder). w.two_err) lock.rest ∙ is.two_err;
+  },
+  ap (λ (w : WorkFolder). w.filters_md5) lock.rest ∙ is.stored,
+)
 
 fallen_falls_as : (f g : WorkFolder) → IsFallen f g → FallsAs f g
 fallen_falls_as f g is = record {
@@ -94,23 +100,33 @@ fallen_falls_as f g is = record {
 }
 
 -- of a resync that failed and was closed, the listings fell or nothing but the lock changed
-pub resync_fell : (IsKept : Type 0) (resilient dry_run : Bool) (ended : Result End End) (end : End) (f f2 g h : WorkFolder) → IfOk ended (λ e. is_good e ≡ true) → ClosesWith ended end → is_after_good end ≡ false
-    → ChangesLock f f2 → IfErr ended (λ e. ((g ≡ f2) × IsKept) ⊎ IsFallen f2 g)
-    → (falls_at_close resilient dry_run ended ≡ false → Unlocks g h) → (falls_at_close resilient dry_run ended ≡ true → IsFallen g h) → StaysOrFell f h IsKept
-resync_fell IsKept resilient dry_run (Ok good) end f f2 g h well (inl same) bad lock left kept fell = false_true (sym bad ∙ ap is_after_good same ∙ good_is_after_good good well)
-resync_fell IsKept resilient dry_run (Ok good) end f f2 g h well (inr stays) bad lock left kept fell = false_true (sym bad ∙ ap is_after_good stays)
-resync_fell IsKept resilient dry_run (Err e) end f f2 g h well same bad lock left kept fell = by_fall (falls_at_close resilient dry_run (Err e)) refl
+pub resync_fell : (opts : Opts) (rules : List Rule) (digest : Option (List ℕ)) (IsKept : Type 0) (ended : Result End End) (end : End) (f f2 g h : WorkFolder) → AreRulesOf opts.filters f.filters rules digest
+    → IfOk ended (λ e. is_good e ≡ true) → ClosesWith ended end → is_after_good end ≡ false → ChangesLock f f2 → Closes g h → IfErr ended (λ e. ((g ≡ f2) × IsKept) ⊎ FellWith digest f2 g)
+    → (falls_at_close opts.resilient opts.dry_run ended ≡ false → Unlocks g h) → (falls_at_close opts.resilient opts.dry_run ended ≡ true → IsFallen g h) → StaysOrFell opts f h IsKept
+resync_fell opts rules digest IsKept (Ok good) end f f2 g h are well (inl same) bad lock closes left kept fell = false_true (sym bad ∙ ap is_after_good same ∙ good_is_after_good good well)
+resync_fell opts rules digest IsKept (Ok good) end f f2 g h are well (inr stays) bad lock closes left kept fell = false_true (sym bad ∙ ap is_after_good stays)
+resync_fell opts rules digest IsKept (Err e) end f f2 g h are well same bad lock closes left kept fell = by_fall (falls_at_close opts.resilient opts.dry_run (Err e)) refl
   where
-    falls_so : ((g ≡ f2) × IsKept) ⊎ IsFallen f2 g → FallsAs f2 g
+    locked : f2.filters_md5 ≡ f.filters_md5
+    locked = ap (λ (w : WorkFolder). w.filters_md5) lock.rest
+
+    closed : h.filters_md5 ≡ g.filters_md5
+    closed = ap (λ (w : WorkFolder). w.filters_md5) closes.rest
+
+    falls_so : ((g ≡ f2) × IsKept) ⊎ FellWith digest f2 g → FallsAs f2 g
     falls_so (inl stays) = falls_as_same f2 g stays.0
-    falls_so (inr fallen) = fallen_falls_as f2 g fallen
+    falls_so (inr fallen) = fallen_falls_as f2 g fallen.0
 
-    unlocked : ((g ≡ f2) × IsKept) ⊎ IsFallen f2 g → Unlocks g h → StaysOrFell f h IsKept
+    stores : ((g ≡ f2) × IsKept) ⊎ FellWith digest f2 g → StoresRules opts f h
+    stores (inl stays) = inl (closed ∙ ap (λ (w : WorkFolder). w.filters_md5) stays.0 ∙ locked)
+    stores (inr fallen) = inr (rules, digest, are, closed ∙ fallen.1 ∙ ap (stored digest) locked)
+
+    unlocked : ((g ≡ f2) × IsKept) ⊎ FellWith digest f2 g → Unlocks g h → StaysOrFell opts f h IsKept
     unlocked (inl stays) only = inl (changes_closed f f2 g h lock stays.0 only, stays.1)
-    unlocked (inr fallen) only = inr (fell_before f f2 f2 h lock (falls_as_same f2 f2 refl) (fell_past f2 g h fallen only))
+    unlocked (inr fallen) only = inr (fell_before f f2 f2 h lock (falls_as_same f2 f2 refl) (fell_past f2 g h fallen.0 only), stores left)
 
-    by_fall : (b : Bool) → falls_at_close resilient dry_run (Err e) ≡ b → StaysOrFell f h IsKept
-    by_fall true falls = inr (fell_before f f2 g h lock (falls_so left) (fell falls))
+    by_fall : (b : Bool) → falls_at_close opts.resilient opts.dry_run (Err e) ≡ b → StaysOrFell opts f h IsKept
+    by_fall true falls = inr (fell_before f f2 g h lock (falls_so left) (fell falls), stores left)
     by_fall false stays = unlocked left (kept stays)
 
 -- # From one part of a run to the next
@@ -119,9 +135,8 @@ pub falls_as_held : (f f2 g : WorkFolder) (w w2 w3 : ℕ) → f2 ≡ f → w2 �
 falls_as_held f f2 g w w2 w3 same steady falls never =
     subst (λ (h : WorkFolder). FallsAs h g) same (falls (λ rose. never (subst (λ (n : ℕ). Rose n w3) steady rose)))
 
-pub fell_held : (f f2 g : WorkFolder) (w w2 w3 : ℕ) → f2 ≡ f → w2 ≡ w → ((Rose w2 w3 → ⊥) → IsFallen f2 g) → (Rose w w3 → ⊥) → IsFallen f g
-fell_held f f2 g w w2 w3 same steady fell never =
-    subst (λ (h : WorkFolder). IsFallen h g) same (fell (λ rose. never (subst (λ (n : ℕ). Rose n w3) steady rose)))
+pub fell_held : (P : WorkFolder → Type 0) (f f2 : WorkFolder) (w w2 w3 : ℕ) → f2 ≡ f → w2 ≡ w → ((Rose w2 w3 → ⊥) → P f2) → (Rose w w3 → ⊥) → P f
+fell_held P f f2 w w2 w3 same steady fell never = subst P same (fell (λ rose. never (subst (λ (n : ℕ). Rose n w3) steady rose)))
 
 -- a call that failed rose the count
 pub never_rose : {P : Type 0} (a b c : ℕ) → a ≤ b → Rose b c → (Rose a c → ⊥) → P

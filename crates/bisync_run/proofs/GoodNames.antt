@@ -1,18 +1,19 @@
--- Names of a base that have listings, or nothing, still do after an ordinary run.
+-- Names of a base that have listings, or nothing, still do after a run.
 use Rattle.std.proofs.Common.{◌≡◌, ◌++◌, ◌<◌, ◌^◌, [], ◌∷◌, refl, sym, subst, inl, inr, ℕ, List, Option, Some, None}
 use Rattle.std.specs.Prelude.{⊤}
 use Rattle.bisync_tree.specs.declared.entries.Compare.{Compare}
 use Rattle.bisync_tree.specs.declared.options.Limits.{Limits}
 use Rattle.bisync_device.specs.WorkFolder.{Held, Absent, Kept, Loose, WorkFolder, IsSettled, at, renamed}
 use Rattle.bisync_device.specs.declared.works.WorkName.{WorkName}
-use Rattle.bisync_device.specs.declared.works.WorkName.TheVariants.{One, Two, OneOld, TwoOld, OneNew, TwoNew, OneErr, TwoErr}
+use Rattle.bisync_device.specs.declared.works.WorkName.TheVariants.{One, Two, OneOld, TwoOld, OneNew, TwoNew, OneErr, TwoErr, FiltersMd5}
 use Rattle.bisync_opts.specs.declared.options.Opts.{Opts}
 use Rattle.bisync_work.specs.declared.bases.Pair.{Pair}
 use Rattle.bisync_work.specs.declared.bases.Pair.TheVariants.{Current, Mixed, Old}
 use Rattle.bisync_work.specs.BadNames.{IsFirstBad, IsGood}
 use Rattle.bisync_work.specs.Base.{Base}
 use Rattle.bisync_work.specs.Locks.{ChangesLock}
-use Rattle.bisync_work.specs.Moves.{SameListings, moved_over}
+use Rattle.bisync_work.specs.KeptTexts.{ChangesOnly}
+use Rattle.bisync_work.specs.Moves.{IsReady, SameListings, moved_over}
 use Rattle.bisync_work.specs.NewListings.{but_new}
 use Rattle.bisync_work.specs.Renames.{AreBegun, Renames, after_renames, back_renames, fall_renames, switch_renames}
 use Rattle.bisync_work.proofs.BaseLaws.{same_bad}
@@ -20,18 +21,16 @@ use Rattle.bisync_work.proofs.RenameLaws.{over, renamed_over}
 use Rattle.bisync_run.specs.CarryingOut.{AreWithin}
 use Rattle.bisync_run.specs.KeptNames.{HasGoodNames, KeepsGoodNames}
 use Rattle.bisync_run.specs.LeftNames.{MayBeLeft}
-use Rattle.bisync_run.specs.OrdinaryChanges.{IsPrepared, IsSetBack}
-use Rattle.bisync_run.specs.ResyncWriting.{next_base}
+use Rattle.bisync_run.specs.OrdinaryChanges.{IsPrepared}
 use Rattle.bisync_run.specs.Starts.{IsStartOf}
 use Rattle.bisync_run.specs.declared.looks.Look.{Look}
-use Rattle.bisync_run.specs.declared.prepared.Prepared.{Prepared}
 use Rattle.bisync_run.specs.declared.starting.Started.{Started}
 use Rattle.bisync_run.proofs.BasesSetBack.{same_image}
 use Rattle.bisync_run.proofs.CloseLaws.{MayUnlock, same_listings as same_unlocked, unlocks}
 use Rattle.bisync_run.proofs.FolderBases.{ready_to}
 use Rattle.bisync_run.proofs.LockedFolders.{ready_past, same_listings}
 use Rattle.bisync_run.proofs.OrdinaryHeld.{prepared_of}
-use Rattle.bisync_run.proofs.ResyncWrites.{new_same}
+use Rattle.bisync_run.proofs.ResyncWrites.{digest_same, new_same}
 
 -- # The same, name by name
 
@@ -147,11 +146,10 @@ pub back_good : (limit : ℕ) (f g h : WorkFolder) (pair : Pair) → but_new g �
 back_good limit f g h pair rest begun good =
     from_names limit h (begun_keeps (AreGood limit) (back_renames pair) (each_back limit pair) g h begun (by_name limit g (written_good limit f g rest good)))
 
--- the base set back, the steps done, and the switch begun
-pub switched_good : (limit : ℕ) (f g h : WorkFolder) (before : Base) (prepared : Prepared) → IsSetBack limit before prepared f → ChangesLock f g → AreBegun switch_renames g h
-    → HasGoodNames limit f → HasGoodNames limit h
-switched_good limit f g h before prepared back lock begun good =
-    let ready = ready_past f g lock limit (next_base prepared) back.ready in
+-- new listings written, the steps done, and the switch begun
+pub switched_good : (limit : ℕ) (f g h : WorkFolder) (next : Base) → IsReady limit f next → ChangesLock f g → AreBegun switch_renames g h → HasGoodNames limit f → HasGoodNames limit h
+switched_good limit f g h next is lock begun good =
+    let ready = ready_past f g lock limit next is in
     let new : AreGoodWithNew limit g = record {
       base = by_name limit g (locked_good limit f g lock good);
       one_new = inr (_, _, ready.one);
@@ -161,6 +159,13 @@ switched_good limit f g h before prepared back lock begun good =
 
 pub fallen_good : (limit : ℕ) (f g : WorkFolder) → AreBegun fall_renames f g → HasGoodNames limit f → HasGoodNames limit g
 fallen_good limit f g begun good = from_names limit g (begun_keeps (AreGood limit) fall_renames (each_falls limit) f g begun (by_name limit f good))
+
+-- new listings written, and the fall begun
+pub rewritten_good : (limit : ℕ) (f g h : WorkFolder) → but_new g ≡ but_new f → AreBegun fall_renames g h → HasGoodNames limit f → HasGoodNames limit h
+rewritten_good limit f g h rest begun good = fallen_good limit g h begun (written_good limit f g rest good)
+
+pub stored_good : (limit : ℕ) (f g : WorkFolder) → ChangesOnly FiltersMd5 f g → HasGoodNames limit f → HasGoodNames limit g
+stored_good limit f g others = same_good limit f g (digest_same f g others)
 
 pub unlocked_good : (limit : ℕ) (f g : WorkFolder) → MayUnlock f g → HasGoodNames limit f → HasGoodNames limit g
 unlocked_good limit f g may = same_good limit f g (same_unlocked f g (unlocks f g may))

@@ -118,8 +118,8 @@ module _ (mode : Prefer) (limits : Limits) (compare : Compare) (rules : List Rul
       changes = all_counted mode compare rules a b prepared plan now (since now done);
     }
 
-  pub trees_held : HasNoResyncRefusal mode limits f s → (now : Remotes) → IsPartDone prepared.plan.steps.items (by_side a2 b2) now → LeavesTrees mode limits f s (by_side a b) now
-  trees_held none now part =
+  pub trees_held : HasNoResyncRefusal mode limits f s → (h : WorkFolder) (now : Remotes) → IsPartDone prepared.plan.steps.items (by_side a2 b2) now → LeavesTrees mode limits f s (by_side a b) h now
+  trees_held none h now part =
       inr (none, part_mixed mode compare rules a b prepared plan now (part_since (by_side a b) (by_side a2 b2) looked windows prepared.plan.steps.items now part))
 
   pub mix_held : (now : Remotes) → IsPartDone prepared.plan.steps.items (by_side a2 b2) now → LeavesMix mode s (by_side a b) now

@@ -69,8 +69,8 @@ module _ (opts : Opts) (limits : Limits) (rules : List Rule) (digest : Option (L
   -- # What is left
 
   module _ (a2 b2 : RemoteState) (looked : AreUntouched (by_side a b) (by_side a2 b2)) (windows : (side : Side) → (by_side a2 b2 side).window ≡ (by_side a b side).window) where
-    pub trees_held : opts.dry_run ≡ false → (now : Remotes) → IsPartDone made.plan.steps.items (by_side a2 b2) now → LeavesOrdinaryTrees opts limits f s digest (by_side a b) now
-    trees_held changing now part = inr (record {
+    pub trees_held : opts.dry_run ≡ false → (h : WorkFolder) (now : Remotes) → IsPartDone made.plan.steps.items (by_side a2 b2) now → LeavesOrdinaryTrees opts limits f s digest (by_side a b) h now
+    trees_held changing h now part = inr (record {
       changing = changing;
       course = look.course;
       between = part_between opts opts.compare rules a b look.course.base look.course.names (prepared_of stamp made) look.course.are look.steps look.finals now

@@ -45,7 +45,7 @@ module _ (f g : WorkFolder) where
   pub fall_loses : Falls f g → Loses f g
   fall_loses a = record { base = a.base; settled = a.settled }
 
-  digest_same : ChangesOnly FiltersMd5 f g → SameListings f g
+  pub digest_same : ChangesOnly FiltersMd5 f g → SameListings f g
   digest_same o = record { one = ap (λ (x : WorkFolder). x.one) o.rest; two = ap (λ (x : WorkFolder). x.two) o.rest; one_old = ap (λ (x : WorkFolder). x.one_old) o.rest; two_old = ap (λ (x : WorkFolder). x.two_old) o.rest }
 
   -- without a base there is none, whatever the digest file holds

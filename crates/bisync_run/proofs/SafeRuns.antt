@@ -35,6 +35,7 @@ use Rattle.bisync_work.proofs.PairLaws.{same_bytes}
 use Rattle.bisync_run.specs.Courses.{known_in, paths_through, view_of}
 use Rattle.bisync_run.specs.FilterRules.{AreRulesOf}
 use Rattle.bisync_run.specs.Ordinary.{AreOnTheWay, IsMadeNext}
+use Rattle.bisync_report.specs.declared.ends.End.{End}
 use Rattle.bisync_run.specs.OrdinaryRuns.{KeepsSafe, LeavesOrdinaryBaseOf, LeavesOrdinaryTreesOf, entries_in, policy_in}
 use Rattle.bisync_run.specs.ResyncRuns.{Matter, sides_in}
 use Rattle.bisync_run.specs.Resyncs.{base_of_trees}
@@ -133,17 +134,17 @@ module _ (opts : Opts) (limits : Limits) (small : limits.listing < 2 ^ 64) (f : 
       other)
       (leaves before was)
 
-  trees_left : (told : Bool) (moment : ℤ) → LeavesOrdinaryTreesOf opts limits f start told moment now → opts.conflict.loser ≢ Delete
+  trees_left : (told : Bool) (moment : ℤ) (end : End) (h : WorkFolder) → LeavesOrdinaryTreesOf opts limits f start told moment end h now → opts.conflict.loser ≢ Delete
       → (before : Option Base) → IsBase limits.listing f before → (p : PathBytes) (bytes : List ℕ)
       → IsSafe (policy_in opts (sides_in m)) (entries_in before) (start_of (sides_in m)) p bytes → IsSafe (policy_in opts (sides_in m)) (entries_in before) (trees_in now) p bytes
-  trees_left told moment leaves named before was p bytes safe =
+  trees_left told moment end h leaves named before was p bytes safe =
       ⊎_elim
-      (λ untouched. subst (λ (t : Trees). IsSafe (policy_in opts (sides_in m)) (entries_in before) t p bytes) (sym (untouched_trees start now untouched)) safe)
+      (λ early. subst (λ (t : Trees). IsSafe (policy_in opts (sides_in m)) (entries_in before) t p bytes) (sym (untouched_trees start now early.0)) safe)
       (λ some. kept_on_the_way opts (sides_in m) limits small f some.1.0.digest now (with_rules (λ t. AreOnTheWay opts limits f t some.1.0.digest now) some.1.0 some.1.1) named before was p bytes safe)
       leaves
 
-pub keeps_safe : (opts : Opts) (limits : Limits) → limits.listing < 2 ^ 64 → (f : WorkFolder) (start : Remotes) (told : Bool) (moment : ℤ) (g : WorkFolder) (now : Remotes)
-    → LeavesOrdinaryBaseOf opts limits f start g now → LeavesOrdinaryTreesOf opts limits f start told moment now → KeepsSafe opts limits f start g now
-keeps_safe opts limits small f start told moment g now bases trees named m before after was is p bytes safe =
+pub keeps_safe : (opts : Opts) (limits : Limits) → limits.listing < 2 ^ 64 → (f : WorkFolder) (start : Remotes) (told : Bool) (moment : ℤ) (end : End) (h g : WorkFolder) (now : Remotes)
+    → LeavesOrdinaryBaseOf opts limits f start g now → LeavesOrdinaryTreesOf opts limits f start told moment end h now → KeepsSafe opts limits f start g now
+keeps_safe opts limits small f start told moment end h g now bases trees named m before after was is p bytes safe =
     safe_at_base (policy_in opts (sides_in m)) (entries_in before) (entries_in after) (trees_in now) (base_left opts limits small f start now m g bases before after was is) p bytes
-    (trees_left opts limits small f start now m told moment trees named before was p bytes safe)
+    (trees_left opts limits small f start now m told moment end h trees named before was p bytes safe)

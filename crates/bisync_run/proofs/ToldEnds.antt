@@ -1,16 +1,20 @@
 -- What is known of the end of a run once the last line was told.
-use Rattle.std.proofs.Common.{◌≡◌, ◌⊎◌, ◌∙◌, ap, subst, sym, inl, inr, ⊎_elim, Bool, true, ℕ, ℤ, Option, Some, None}
+use Rattle.std.proofs.Common.{◌≡◌, ◌⊎◌, ◌∙◌, ◌++◌, [], refl, take, IsTrue, List, Result, Ok, Err, ap, subst, sym, inl, inr, ⊎_elim, Bool, true, ℕ, ℤ, Option, Some, None}
 use Rattle.std.specs.Option.{unwrap_or}
+use Rattle.std.specs.Prelude.{is_err}
+use Rattle.std.proofs.lemmas.List.{append-nil}
 use Rattle.bisync_tree.specs.declared.options.Limits.{Limits}
 use Rattle.bisync_tree.specs.declared.options.Prefer.{Prefer}
-use Rattle.bisync_device.specs.Faults.{Rose}
+use Rattle.bisync_device.specs.Faults.{HasCause, Rose}
+use Rattle.bisync_device.specs.Sink.{Adds, SinkState}
+use Rattle.bisync_device.specs.declared.faults.Failed.{Failed}
 use Rattle.bisync_device.specs.WorkFolder.{WorkFolder, IsSettled, IsImage}
 use Rattle.bisync_device.proofs.WorkFolderLaws.{image-settled}
 use Rattle.bisync_opts.specs.declared.options.Opts.{Opts}
 use Rattle.bisync_report.specs.declared.ends.End.{End}
 use Rattle.bisync_work.specs.Moves.{KeepsBase}
 use Rattle.bisync_work.proofs.BaseLaws.{same_keeps}
-use Rattle.bisync_run.specs.Closing.{EndsWith}
+use Rattle.bisync_run.specs.Closing.{AddsLast, EndsWith}
 use Rattle.bisync_run.specs.EndKinds.{is_good, is_after_good}
 use Rattle.bisync_run.specs.ResyncRuns.{AnswersRun, HasNoRefusal, LeavesBaseOf, sides_in}
 use Rattle.bisync_run.specs.Resyncs.{base_of_trees}
@@ -31,6 +35,15 @@ good_told end last (inr (was_good, failed)) good = false_true (sym (ap is_good f
 pub told_same : (end last : End) (before after : ℕ) → EndsWith end last → (is_good end ≡ true → (last ≡ end) ⊎ Rose before after) → (Rose before after → ⊥) → last ≡ end
 told_same end last before after (inl same) failed never = same
 told_same end last before after (inr (was_good, is)) failed never = ⊎_elim (λ same. same) (λ rose. absurd (never rose)) (failed was_good)
+
+-- # The bytes
+
+pub adds_last : (tells : Bool) (text : List ℕ) (before after : SinkState) (result : Result (Unit {0}) Failed) → Adds tells text before after result → HasCause (is_err result) before.faults after.faults
+    → IsTrue tells → AddsLast text before after
+adds_last tells text before after (Ok done) adds cause t = ((text, adds t), λ never. ([], adds t ∙ ap (λ (l : List ℕ). l ++ text) (sym (append-nil before.bytes))))
+adds_last tells text before after (Err failed) adds cause t = let some = adds t in ((take some.0 text, some.1), λ never. absurd (never (cause.rose refl)))
+
+-- # The answer
 
 pub answers_told : (mode : Prefer) (opts : Opts) (limits : Limits) (f : WorkFolder) (start : Remotes) (clock : Bool) (moment : ℤ) (end last : End)
     → AnswersRun mode opts limits f start clock moment end → (is_after_good end ≡ true → HasNoRefusal mode opts limits f start clock moment) → EndsWith end last

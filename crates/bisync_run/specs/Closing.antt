@@ -1,6 +1,7 @@
 -- What the close of a run leaves: the listings fall where the end asks for it, and the lock goes.
-use Rattle.std.specs.Prelude.{◌≡◌, ◌⊎◌, ◌≤◌, ℕ, true, Option, Result, Ok, Err}
+use Rattle.std.specs.Prelude.{◌≡◌, ◌⊎◌, ◌≤◌, ◌++◌, ℕ, List, true, Option, Result, Ok, Err}
 use Rattle.bisync_device.specs.Faults.{Rose}
+use Rattle.bisync_device.specs.Sink.{SinkState}
 use Rattle.bisync_device.specs.WorkFolder.{Absent, WorkFolder, IsSettled, with_held}
 use Rattle.bisync_device.specs.declared.works.WorkName.TheVariants.{Lock}
 use Rattle.bisync_work.specs.declared.bases.Pair.{Pair}
@@ -48,3 +49,9 @@ pub record HasNoListings (f : WorkFolder) : Type 0 where
 -- the end stays, but where the last line failed after a good end
 abbrev pub EndsWith : End → End → Type 0
 EndsWith end last = (last ≡ end) ⊎ ((is_good end ≡ true) × (last ≡ SinkFault true))
+
+-- what was told before stays; and where the sink didn't fail, these bytes stand at the end
+abbrev pub AddsLast : List ℕ → SinkState → SinkState → Type 0
+AddsLast last before after =
+    ((added : List ℕ) × (after.bytes ≡ before.bytes ++ added))
+    × ((Rose before.faults after.faults → ⊥) → (lines : List ℕ) × (after.bytes ≡ (before.bytes ++ lines) ++ last))

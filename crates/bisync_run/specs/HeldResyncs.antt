@@ -20,11 +20,11 @@ IsGoodEndOf dry_run mode s DryRun = dry_run ≡ true
 IsGoodEndOf dry_run mode s (Resynced one two) = (dry_run ≡ false) × (one ≡ resync_changes mode s One) × (two ≡ resync_changes mode s Two)
 IsGoodEndOf dry_run mode s end = ⊥
 
--- A course that ended well told the lines of the plan. Any other told nothing, touched no side and kept what is kept, or told
--- them, where it may have made changes; of a sink that failed nothing is said here.
-abbrev pub TellsPlan : Prefer → Sides → Remotes → Remotes → Type 0 → List ℕ → List ℕ → Result End End → Type 0
-TellsPlan mode s start now IsKept before after (Ok end) = after ≡ before ++ resync_lines mode s
-TellsPlan mode s start now IsKept before after (Err end) =
+-- A course that ended well was accepted, and told the lines of the plan. Any other told nothing, touched no side and kept what
+-- is kept; or was accepted and told them, where it may have made changes. Of a sink that failed nothing is said here.
+abbrev pub TellsPlan : Prefer → Sides → Remotes → Remotes → Type 0 → Type 0 → List ℕ → List ℕ → Result End End → Type 0
+TellsPlan mode s start now IsKept IsAccepted before after (Ok end) = IsAccepted × (after ≡ before ++ resync_lines mode s)
+TellsPlan mode s start now IsKept IsAccepted before after (Err end) =
     (is_sink_fault end ≡ true)
     ⊎ (((after ≡ before) × AreUntouched start now × IsKept)
-    ⊎ ((may_have_changed end ≡ true) × (after ≡ before ++ resync_lines mode s)))
+    ⊎ ((may_have_changed end ≡ true) × IsAccepted × (after ≡ before ++ resync_lines mode s)))

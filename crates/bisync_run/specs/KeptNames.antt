@@ -2,6 +2,7 @@
 use Rattle.std.specs.Prelude.{◌≡◌, ◌⊎◌, ℕ, Bool, false, Some, None, ⊤}
 use Rattle.bisync_tree.specs.declared.options.Limits.{Limits}
 use Rattle.bisync_device.specs.WorkFolder.{WorkFolder}
+use Rattle.bisync_opts.specs.declared.options.Opts.{Opts}
 use Rattle.bisync_work.specs.declared.bases.Pair.TheVariants.{Old}
 use Rattle.bisync_work.specs.BadNames.{IsFirstBad, base_names}
 use Rattle.bisync_work.specs.Base.{Base, HasBaseIn, IsBase, HasNoBase}
@@ -9,12 +10,17 @@ use Rattle.bisync_work.specs.Locks.{ChangesLock}
 use Rattle.bisync_report.specs.declared.ends.End.{End}
 use Rattle.bisync_report.specs.declared.ends.End.TheVariants.{RemoteFault, Moved}
 use Rattle.bisync_run.specs.Closing.{but_fallen_or_lock}
+use Rattle.bisync_run.specs.EndKinds.{lets_fall}
 
 -- # A run that made no change of its own
 
 -- only the names that fall changed, and none but the lock where nothing falls
 abbrev pub KeepsButFallen : Bool → WorkFolder → WorkFolder → Type 0
 KeepsButFallen falls f g = (but_fallen_or_lock g ≡ but_fallen_or_lock f) × (falls ≡ false → ChangesLock f g)
+
+-- so does a run of these options with this end
+abbrev pub KeepsOwn : Opts → End → WorkFolder → WorkFolder → Type 0
+KeepsOwn opts end f g = KeepsButFallen (lets_fall opts.resilient opts.dry_run end) f g
 
 -- # The listings of a base
 

@@ -5,6 +5,7 @@ use Rattle.bisync_tree.specs.declared.options.Limits.{Limits}
 use Rattle.bisync_device.specs.WorkFolder.{Held, Absent, Kept, WorkFolder, IsSettled, IsImage}
 use Rattle.bisync_work.specs.declared.bases.Pair.TheVariants.{Old}
 use Rattle.bisync_work.specs.Base.{Base, HasBaseIn, IsBase, HasNoBase}
+use Rattle.bisync_filter.specs.declared.rule_lists.Rule.{Rule}
 use Rattle.bisync_opts.specs.declared.options.Opts.{Opts}
 use Rattle.bisync_work.specs.Locks.{ChangesLock, MakesLock}
 use Rattle.bisync_work.specs.LockTexts.{expiry_of, lock_text}
@@ -12,6 +13,7 @@ use Rattle.bisync_work.specs.Moves.{IsFallen, moved_over}
 use Rattle.bisync_report.specs.declared.ends.End.{End}
 use Rattle.bisync_run.specs.EndKinds.{is_before_lock}
 use Rattle.bisync_run.specs.Entering.{AtMoment, HasSomeRules}
+use Rattle.bisync_run.specs.FilterRules.{AreRulesOf}
 use Rattle.bisync_run.specs.FolderBases.{TakesNext, compared}
 use Rattle.bisync_run.specs.ResyncRuns.{Matter}
 use Rattle.bisync_run.specs.ResyncWriting.{stored}
@@ -61,9 +63,16 @@ LeavesOwnLock opts told moment end f g IsKept =
 
 -- # The fall of a resync
 
--- no name but the lock is another, and what is kept is kept; or the listings fell
-abbrev pub StaysOrFell : WorkFolder → WorkFolder → Type 0 → Type 0
-StaysOrFell f g IsKept = (ChangesLock f g × IsKept) ⊎ IsFallen f g
+-- the stored digest is as before, or that of the filters file
+abbrev pub StoresRules : Opts → WorkFolder → WorkFolder → Type 0
+StoresRules opts f g =
+    (g.filters_md5 ≡ f.filters_md5)
+    ⊎ ((rules : List Rule) × (digest : Option (List ℕ)) × AreRulesOf opts.filters f.filters rules digest × (g.filters_md5 ≡ stored digest f.filters_md5))
+
+-- No name but the lock is another, and what is kept is kept; or the listings fell, and the stored digest is as before or that of
+-- the filters file.
+abbrev pub StaysOrFell : Opts → WorkFolder → WorkFolder → Type 0 → Type 0
+StaysOrFell opts f g IsKept = (ChangesLock f g × IsKept) ⊎ (IsFallen f g × StoresRules opts f g)
 
 -- # Inside this crate
 
@@ -73,6 +82,10 @@ StoresDigest limits compare digest f g =
     (base : Option Base) → IsBase limits.listing f base
     → (IsBase limits.listing g base × (g.filters_md5 ≡ f.filters_md5))
     ⊎ (HasNoBase limits.listing g ⊎ (TakesNext limits compare f g × (g.filters_md5 ≡ stored digest f.filters_md5)))
+
+-- the listings fell, and the digest is stored
+abbrev pub FellWith : Option (List ℕ) → WorkFolder → WorkFolder → Type 0
+FellWith digest f g = IsFallen f g × (g.filters_md5 ≡ stored digest f.filters_md5)
 
 -- the lock is as before, or was written again
 abbrev pub KeepsOwnLock : Option ℤ → Bool → ℤ → Held → Held → Type 0

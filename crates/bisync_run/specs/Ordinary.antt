@@ -45,9 +45,9 @@ pub record AreOnTheWay (opts : Opts) (limits : Limits) (f : WorkFolder) (s : Sid
   pub course : Course opts limits f s digest
   pub between : IsBetween (known_in opts s course.base) (start_of s) course.names (trees_in now)
 
--- No side was touched, or the trees are on the way.
-abbrev pub LeavesOrdinaryTrees : Opts → Limits → WorkFolder → Sides → Option (List ℕ) → Remotes → Remotes → Type 0
-LeavesOrdinaryTrees opts limits f s digest start now = AreUntouched start now ⊎ AreOnTheWay opts limits f s digest now
+-- No side and no name was touched, or the trees are on the way.
+abbrev pub LeavesOrdinaryTrees : Opts → Limits → WorkFolder → Sides → Option (List ℕ) → Remotes → WorkFolder → Remotes → Type 0
+LeavesOrdinaryTrees opts limits f s digest start g now = (AreUntouched start now × (g ≡ f)) ⊎ AreOnTheWay opts limits f s digest now
 
 -- # A good end
 

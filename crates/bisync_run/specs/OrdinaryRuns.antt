@@ -15,9 +15,9 @@ use Rattle.bisync_transfer.specs.StepTrees.{trees_in}
 use Rattle.bisync_work.specs.Base.{Base, IsBase, HasNoBase}
 use Rattle.bisync_work.specs.Locks.{IsFree}
 use Rattle.bisync_report.specs.declared.ends.End.{End}
-use Rattle.bisync_run.specs.EndKinds.{is_after_good, is_sink_fault, lets_fall, may_tell_plan}
+use Rattle.bisync_run.specs.EndKinds.{is_after_good, is_sink_fault, may_tell_plan}
 use Rattle.bisync_run.specs.Entering.{AtMoment, IsEntryEnd}
-use Rattle.bisync_run.specs.KeptNames.{KeepsButFallen, StandsSetBack}
+use Rattle.bisync_run.specs.KeptNames.{KeepsOwn, StandsSetBack}
 use Rattle.bisync_run.specs.Ordinary.{IsMadeNext, AreOnTheWay, IsOrdinaryDone, IsGoodOrdinaryEnd, AreCourseLines}
 use Rattle.bisync_run.specs.OrdinaryRefusals.{AnswersOrdinary, HasNoOrdinaryRefusal}
 use Rattle.bisync_run.specs.ResyncRuns.{Matter, sides_in}
@@ -55,10 +55,11 @@ abbrev pub KeepsOrdinaryBaseOf : Opts → Limits → WorkFolder → Remotes → 
 KeepsOrdinaryBaseOf opts limits f start g now =
     (base : Option Base) → IsBase limits.listing f base → IsBase limits.listing g base ⊎ IsMadeNextBy opts limits f start g now
 
--- No side was touched; or nothing refused the run, and the trees are between those before and those that it is to leave.
-abbrev pub LeavesOrdinaryTreesOf : Opts → Limits → WorkFolder → Remotes → Bool → ℤ → Remotes → Type 0
-LeavesOrdinaryTreesOf opts limits f start told moment now =
-    AreUntouched start now
+-- No side was touched, and no name but the lock and those that fall; or nothing refused the run, and the trees are between those
+-- before and those that it is to leave.
+abbrev pub LeavesOrdinaryTreesOf : Opts → Limits → WorkFolder → Remotes → Bool → ℤ → End → WorkFolder → Remotes → Type 0
+LeavesOrdinaryTreesOf opts limits f start told moment end g now =
+    (AreUntouched start now × KeepsOwn opts end f g)
     ⊎ (AtMoment told moment (λ now. IsFree now f.lock) × ((m : Matter opts f start) × AreOnTheWay opts limits f (sides_in m) m.digest now))
 
 -- The run was done.
@@ -97,5 +98,5 @@ KeepsSafe opts limits f start g now =
 abbrev pub TellsOrdinaryRun : Opts → Limits → WorkFolder → Remotes → WorkFolder → Remotes → List ℕ → List ℕ → List ℕ → End → Type 0
 TellsOrdinaryRun opts limits f start g now before last after end =
     (is_sink_fault end ≡ true)
-    ⊎ (((is_after_good end ≡ true → opts.check_sync ≡ Only) × (after ≡ before ++ last) × AreUntouched start now × KeepsButFallen (lets_fall opts.resilient opts.dry_run end) f g)
+    ⊎ (((is_after_good end ≡ true → opts.check_sync ≡ Only) × (after ≡ before ++ last) × AreUntouched start now × KeepsOwn opts end f g)
     ⊎ ((may_tell_plan end ≡ true) × StandsSetBack limits end f g × ((m : Matter opts f start) × (lines : List ℕ) × AreCourseLines opts limits f (sides_in m) m.digest lines × (after ≡ (before ++ lines) ++ last))))

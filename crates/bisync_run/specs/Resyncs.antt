@@ -47,10 +47,11 @@ LeavesBase mode limits f s start g now =
     (base : Option Base) → IsBase limits.listing f base
     → (IsBase limits.listing g base × AreUntouched start now) ⊎ (HasNoBase limits.listing g ⊎ IsMadeAnew mode limits f s g now)
 
--- No side was touched; or nothing refused the resync, and each side has at each path what it had, or what it is to have.
-abbrev pub LeavesTrees : Prefer → Limits → WorkFolder → Sides → Remotes → Remotes → Type 0
-LeavesTrees mode limits f s start now =
-    AreUntouched start now
+-- No side and no name was touched; or nothing refused the resync, and each side has at each path what it had, or what it is to
+-- have.
+abbrev pub LeavesTrees : Prefer → Limits → WorkFolder → Sides → Remotes → WorkFolder → Remotes → Type 0
+LeavesTrees mode limits f s start g now =
+    (AreUntouched start now × (g ≡ f))
     ⊎ (HasNoResyncRefusal mode limits f s × IsMixOf (start_of s) (resync_end mode s) (trees_in now))
 
 -- the changes of a resync on a side

@@ -1,7 +1,7 @@
 //! How a run ends: the listings fall where the end asks for it, the lock goes, and the last line is
 //! told.
 
-ghost use Rattle.std.specs.Prelude.{◌≡◌, ◌⊎◌, ◌≤◌, ◌++◌, ℕ, IsTrue, IsOk, None, true, false};
+ghost use Rattle.std.specs.Prelude.{◌≡◌, ◌⊎◌, ◌≤◌, ◌++◌, ℕ, List, IsTrue, IsOk, None, true, false};
 ghost use Rattle.bisync_device.specs.Faults.{Rose};
 ghost use Rattle.bisync_device.specs.WorkFolder.{Absent};
 ghost use Rattle.bisync_work.specs.Moves.{Falls, IsFallen};
@@ -72,6 +72,7 @@ fn is_good(end: &End) -> bool
 pub fn tell_end<S: Sink>(sink: &mut S, end: End) -> End
     ensures end { EndsWith end result }
     ensures bytes { IsTrue S.tells → (Rose (S.state sink.old).faults (S.state sink.new).faults → ⊥) → (S.state sink.new).bytes ≡ (S.state sink.old).bytes ++ last_text end }
+    ensures adds { IsTrue S.tells → (added : List ℕ) × ((S.state sink.new).bytes ≡ (S.state sink.old).bytes ++ added) }
     ensures good { is_good_end result ≡ true → (S.state sink.new).faults ≡ (S.state sink.old).faults }
     ensures failed { is_good_end end ≡ true → (result ≡ end) ⊎ Rose (S.state sink.old).faults (S.state sink.new).faults }
     ensures later { (S.state sink.old).faults ≤ (S.state sink.new).faults }

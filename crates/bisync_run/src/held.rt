@@ -18,7 +18,7 @@ ghost use Rattle.bisync_run.specs.FolderBases.{LeavesHeldBase, LeavesNextInPlace
 ghost use Rattle.bisync_run.specs.Grounds.{HasGrounds, IsTold};
 ghost use Rattle.bisync_run.specs.HeldResyncs.{end_of, IsGoodEndOf, TellsPlan};
 ghost use Rattle.bisync_run.specs.KeptNames.{KeepsGoodNames};
-ghost use Rattle.bisync_run.specs.LeftNames.{FallsAs, KeepsOwnLock, LeavesBaseSetBack, StoresDigest};
+ghost use Rattle.bisync_run.specs.LeftNames.{FallsAs, FellWith, KeepsOwnLock, LeavesBaseSetBack, StoresDigest};
 ghost use Rattle.bisync_run.specs.LockNew.{KeepsLockNew};
 ghost use Rattle.bisync_run.specs.Ordinary.{but_ordinary, IsOrdinaryDone, IsGoodOrdinaryEnd, KeepsBaseOrMakesNext, LeavesOrdinaryTrees, TellsCourse};
 ghost use Rattle.bisync_run.specs.OrdinaryEnds.{IsOrdinaryEnd};
@@ -54,7 +54,7 @@ pub fn held<A: Remote, B: Remote, W: Work, C: Clock, S: Sink>(
     ensures base { (mode : Prefer) → opts.now.resync ≡ Some mode → IsTrue A.tells → IsTrue B.tells → IsTrue W.tells →
         LeavesBase mode limits.now (W.state work.old).folder (sides_of opts.now.compare entered.now.rules (A.state one.old) (B.state two.old)) (by_side (A.state one.old) (B.state two.old)) (W.state work.new).folder (by_side (A.state one.new) (B.state two.new)) }
     ensures trees { (mode : Prefer) → opts.now.resync ≡ Some mode → IsTrue A.tells → IsTrue B.tells → IsTrue W.tells →
-        LeavesTrees mode limits.now (W.state work.old).folder (sides_of opts.now.compare entered.now.rules (A.state one.old) (B.state two.old)) (by_side (A.state one.old) (B.state two.old)) (by_side (A.state one.new) (B.state two.new)) }
+        LeavesTrees mode limits.now (W.state work.old).folder (sides_of opts.now.compare entered.now.rules (A.state one.old) (B.state two.old)) (by_side (A.state one.old) (B.state two.old)) (W.state work.new).folder (by_side (A.state one.new) (B.state two.new)) }
     ensures resynced { (mode : Prefer) → opts.now.resync ≡ Some mode → IsTrue A.tells → IsTrue B.tells → IsTrue W.tells → opts.now.dry_run ≡ false → OnOk result
         (IsResynced mode limits.now (W.state work.old).folder (sides_of opts.now.compare entered.now.rules (A.state one.old) (B.state two.old)) entered.now.digest (by_side (A.state one.old) (B.state two.old)) (W.state work.new).folder (by_side (A.state one.new) (B.state two.new))) }
     ensures mixed { (mode : Prefer) → opts.now.resync ≡ Some mode → IsTrue A.tells → IsTrue B.tells → LeavesMix mode (sides_of opts.now.compare entered.now.rules (A.state one.old) (B.state two.old)) (by_side (A.state one.old) (B.state two.old)) (by_side (A.state one.new) (B.state two.new)) }
@@ -67,11 +67,11 @@ pub fn held<A: Remote, B: Remote, W: Work, C: Clock, S: Sink>(
     ensures kind { (mode : Prefer) → opts.now.resync ≡ Some mode → IsResyncEnd opts.now (end_of result) }
     ensures set_aside { (mode : Prefer) → opts.now.resync ≡ Some mode → IsTrue W.tells → opts.now.dry_run ≡ false → OnOk result (AreSetAside entered.now.digest (W.state work.old).folder (W.state work.new).folder) }
     ensures report { (mode : Prefer) → opts.now.resync ≡ Some mode → IsTrue A.tells → IsTrue B.tells → IsTrue S.tells →
-        TellsPlan mode (sides_of opts.now.compare entered.now.rules (A.state one.old) (B.state two.old)) (by_side (A.state one.old) (B.state two.old)) (by_side (A.state one.new) (B.state two.new)) (KeepsFolder W.tells (W.state work.old) (W.state work.new)) (S.state sink.old).bytes (S.state sink.new).bytes result }
+        TellsPlan mode (sides_of opts.now.compare entered.now.rules (A.state one.old) (B.state two.old)) (by_side (A.state one.old) (B.state two.old)) (by_side (A.state one.new) (B.state two.new)) (KeepsFolder W.tells (W.state work.old) (W.state work.new)) (IsTrue W.tells → HasNoResyncRefusal mode limits.now (W.state work.old).folder (sides_of opts.now.compare entered.now.rules (A.state one.old) (B.state two.old))) (S.state sink.old).bytes (S.state sink.new).bytes result }
     ensures run_base { opts.now.resync ≡ None → IsTrue A.tells → IsTrue B.tells → IsTrue W.tells →
         KeepsBaseOrMakesNext opts.now limits.now (W.state work.old).folder (sides_of opts.now.compare entered.now.rules (A.state one.old) (B.state two.old)) entered.now.digest (W.state work.new).folder (by_side (A.state one.new) (B.state two.new)) }
     ensures run_trees { opts.now.resync ≡ None → IsTrue A.tells → IsTrue B.tells → IsTrue W.tells →
-        LeavesOrdinaryTrees opts.now limits.now (W.state work.old).folder (sides_of opts.now.compare entered.now.rules (A.state one.old) (B.state two.old)) entered.now.digest (by_side (A.state one.old) (B.state two.old)) (by_side (A.state one.new) (B.state two.new)) }
+        LeavesOrdinaryTrees opts.now limits.now (W.state work.old).folder (sides_of opts.now.compare entered.now.rules (A.state one.old) (B.state two.old)) entered.now.digest (by_side (A.state one.old) (B.state two.old)) (W.state work.new).folder (by_side (A.state one.new) (B.state two.new)) }
     ensures run_rest { opts.now.resync ≡ None → IsTrue W.tells → but_ordinary (W.state work.new).folder ≡ but_ordinary (W.state work.old).folder }
     ensures done { opts.now.resync ≡ None → IsTrue A.tells → IsTrue B.tells → IsTrue W.tells → opts.now.dry_run ≡ false → opts.now.check_sync ≢ CheckSync.Only → OnOk result
         (IsOrdinaryDone opts.now limits.now (W.state work.old).folder (sides_of opts.now.compare entered.now.rules (A.state one.old) (B.state two.old)) entered.now.digest (by_side (A.state one.old) (B.state two.old)) (W.state work.new).folder (by_side (A.state one.new) (B.state two.new))) }
@@ -91,11 +91,11 @@ pub fn held<A: Remote, B: Remote, W: Work, C: Clock, S: Sink>(
     ensures compares_sink { opts.now.resync ≡ None → opts.now.check_sync ≡ CheckSync.Only → S.state sink.new ≡ S.state sink.old }
     ensures folder_base { IsTrue W.tells → LeavesHeldBase opts.now limits.now (sides_of opts.now.compare entered.now.rules (A.state one.old) (B.state two.old)) entered.now.digest (end_of result) (W.state work.old).folder (W.state work.new).folder }
     ensures falls_as { IsTrue W.tells → (Rose (W.state work.old).faults (W.state work.new).faults → ⊥) → IfErr result (λ _. FallsAs (W.state work.old).folder (W.state work.new).folder) }
-    ensures fell { (mode : Prefer) → opts.now.resync ≡ Some mode → IsTrue W.tells → (Rose (W.state work.old).faults (W.state work.new).faults → ⊥) → IfErr result (λ _. (((W.state work.new).folder ≡ (W.state work.old).folder) × (KeepsTree A.tells (A.state one.old) (A.state one.new) × KeepsTree B.tells (B.state two.old) (B.state two.new))) ⊎ IsFallen (W.state work.old).folder (W.state work.new).folder) }
+    ensures fell { (mode : Prefer) → opts.now.resync ≡ Some mode → IsTrue W.tells → (Rose (W.state work.old).faults (W.state work.new).faults → ⊥) → IfErr result (λ _. (((W.state work.new).folder ≡ (W.state work.old).folder) × (KeepsTree A.tells (A.state one.old) (A.state one.new) × KeepsTree B.tells (B.state two.old) (B.state two.new))) ⊎ FellWith entered.now.digest (W.state work.old).folder (W.state work.new).folder) }
     ensures own_lock { IsTrue W.tells → KeepsOwnLock opts.now.max_lock C.tells (C.moment clock.old) (W.state work.old).folder.lock (W.state work.new).folder.lock }
     ensures digest_late { (mode : Prefer) → opts.now.resync ≡ Some mode → IsTrue W.tells → StoresDigest limits.now (compare_in opts.now.compare (A.state one.old).window (B.state two.old).window) entered.now.digest (W.state work.old).folder (W.state work.new).folder }
     ensures set_back { opts.now.resync ≡ None → IsTrue A.tells → IsTrue B.tells → IsTrue W.tells → LeavesBaseSetBack limits.now (compare_in opts.now.compare (A.state one.old).window (B.state two.old).window) (W.state work.old).folder (by_side (A.state one.old) (B.state two.old)) (W.state work.new).folder (by_side (A.state one.new) (B.state two.new)) }
-    ensures good_names { opts.now.resync ≡ None → IsTrue W.tells → KeepsGoodNames limits.now (W.state work.old).folder (W.state work.new).folder }
+    ensures good_names { IsTrue W.tells → KeepsGoodNames limits.now (W.state work.old).folder (W.state work.new).folder }
     ensures folder_next { IsTrue W.tells → Writes opts.now → OnOk result (LeavesNextInPlace opts.now limits.now (W.state work.old).folder (by_side (A.state one.old) (B.state two.old)) (W.state work.new).folder) }
     ensures settled { IsTrue W.tells → IsSettled (W.state work.old).folder → IsSettled (W.state work.new).folder }
     ensures rest { IsTrue W.tells → but_carried (W.state work.new).folder ≡ but_carried (W.state work.old).folder }

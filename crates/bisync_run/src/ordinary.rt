@@ -54,7 +54,7 @@ pub fn ordinary<A: Remote, B: Remote, W: Work, C: Clock, S: Sink>(
     ensures base { IsTrue A.tells → IsTrue B.tells → IsTrue W.tells →
         KeepsBaseOrMakesNext opts.now limits.now (W.state work.old).folder (sides_of opts.now.compare entered.now.rules (A.state one.old) (B.state two.old)) entered.now.digest (W.state work.new).folder (by_side (A.state one.new) (B.state two.new)) }
     ensures trees { IsTrue A.tells → IsTrue B.tells → IsTrue W.tells →
-        LeavesOrdinaryTrees opts.now limits.now (W.state work.old).folder (sides_of opts.now.compare entered.now.rules (A.state one.old) (B.state two.old)) entered.now.digest (by_side (A.state one.old) (B.state two.old)) (by_side (A.state one.new) (B.state two.new)) }
+        LeavesOrdinaryTrees opts.now limits.now (W.state work.old).folder (sides_of opts.now.compare entered.now.rules (A.state one.old) (B.state two.old)) entered.now.digest (by_side (A.state one.old) (B.state two.old)) (W.state work.new).folder (by_side (A.state one.new) (B.state two.new)) }
     ensures settled { IsTrue W.tells → IsSettled (W.state work.old).folder → IsSettled (W.state work.new).folder }
     ensures rest { IsTrue W.tells → but_ordinary (W.state work.new).folder ≡ but_ordinary (W.state work.old).folder }
     ensures done { IsTrue A.tells → IsTrue B.tells → IsTrue W.tells → opts.now.dry_run ≡ false → opts.now.check_sync ≢ CheckSync.Only → OnOk result

@@ -14,7 +14,8 @@ ghost use Rattle.bisync_run.specs.CarryingOut.{AreWithin, LeavesOneBase, LosesOr
 ghost use Rattle.bisync_run.specs.CountedChanges.{HasCounted};
 ghost use Rattle.bisync_run.specs.Counts.{counts, HasCauses};
 ghost use Rattle.bisync_run.specs.EndKinds.{may_have_switched_after};
-ghost use Rattle.bisync_run.specs.LeftNames.{FallsAs, KeepsOwnLock};
+ghost use Rattle.bisync_run.specs.KeptNames.{HasGoodNames};
+ghost use Rattle.bisync_run.specs.LeftNames.{FallsAs, FellWith, KeepsOwnLock};
 ghost use Rattle.bisync_run.specs.LockNew.{KeepsLockNew};
 ghost use Rattle.bisync_run.specs.ResyncWriting.{next_base, stored};
 ghost use Rattle.bisync_run.specs.Stepping.{IsPartDone, FindsAll, FindsTold, IsStepEnd, MovedDiffers, MovedIsRead};
@@ -50,8 +51,9 @@ pub fn carry_out<A: Remote, B: Remote, W: Work, C: Clock>(
     ensures no_digest { IsTrue W.tells → digest.now ≡ None → (W.state work.new).folder.filters_md5 ≡ (W.state work.old).folder.filters_md5 }
     ensures folder_base { IsTrue W.tells → (limit : ℕ) → limit < 2 ^ 64 → AreWithin limit prepared → LosesOrNext limit prepared (may_have_switched_after result) (W.state work.old).folder (W.state work.new).folder }
     ensures falls_as { IsTrue W.tells → (Rose (W.state work.old).faults (W.state work.new).faults → ⊥) → IfErr result (λ _. FallsAs (W.state work.old).folder (W.state work.new).folder) }
-    ensures fell { IsTrue W.tells → (Rose (W.state work.old).faults (W.state work.new).faults → ⊥) → IfErr result (λ _. IsFallen (W.state work.old).folder (W.state work.new).folder) }
+    ensures fell { IsTrue W.tells → (Rose (W.state work.old).faults (W.state work.new).faults → ⊥) → IfErr result (λ _. FellWith digest.now (W.state work.old).folder (W.state work.new).folder) }
     ensures own_lock { IsTrue W.tells → KeepsOwnLock renewal.max_lock C.tells (C.moment clock.old) (W.state work.old).folder.lock (W.state work.new).folder.lock }
+    ensures good_names { IsTrue W.tells → (limit : ℕ) → AreWithin limit prepared → HasGoodNames limit (W.state work.old).folder → HasGoodNames limit (W.state work.new).folder }
     ensures digest_late { IsTrue W.tells → (limit : ℕ) → limit < 2 ^ 64 → AreWithin limit prepared → (base : Option Base) → IsBase limit (W.state work.old).folder base
         → (IsBase limit (W.state work.new).folder base × ((W.state work.new).folder.filters_md5 ≡ (W.state work.old).folder.filters_md5))
         ⊎ (HasNoBase limit (W.state work.new).folder ⊎ (IsBase limit (W.state work.new).folder (Some (next_base prepared)) × ((W.state work.new).folder.filters_md5 ≡ stored digest.now (W.state work.old).folder.filters_md5))) }

@@ -6,6 +6,7 @@ ghost use Rattle.bisync_plan.specs.Plans.{AreWritable, header_of};
 ghost use Rattle.bisync_work.specs.Base.{Base, IsBase, HasNoBase};
 ghost use Rattle.bisync_work.specs.Moves.{IsReady};
 ghost use Rattle.bisync_work.specs.WorkCalls.{AreWorkCalls};
+ghost use Rattle.bisync_run.specs.KeptNames.{HasGoodNames};
 ghost use Rattle.bisync_run.specs.ResyncWriting.{Loses, but_rewritten, AreRewritten, next_base};
 
 use crate::prepared::Prepared;
@@ -24,6 +25,7 @@ pub fn write_resync<W: Work>(
     ensures loses { IsTrue W.tells → Loses (W.state work.old).folder (W.state work.new).folder }
     ensures rest { IsTrue W.tells → but_rewritten (W.state work.new).folder ≡ but_rewritten (W.state work.old).folder }
     ensures no_digest { IsTrue W.tells → digest.now ≡ None → (W.state work.new).folder.filters_md5 ≡ (W.state work.old).folder.filters_md5 }
+    ensures good_names { IsTrue W.tells → (limit : ℕ) → HasGoodNames limit (W.state work.old).folder → HasGoodNames limit (W.state work.new).folder }
     ensures digest_late { IsTrue W.tells → (limit : ℕ) (base : Option Base) → IsBase limit (W.state work.old).folder base → (IsBase limit (W.state work.new).folder base × ((W.state work.new).folder.filters_md5 ≡ (W.state work.old).folder.filters_md5)) ⊎ HasNoBase limit (W.state work.new).folder }
     ensures rewritten { IsTrue W.tells → OnOk result (AreRewritten digest.now (W.state work.old).folder (W.state work.new).folder) }
     ensures ready { IsTrue W.tells → OnOk result ((limit : ℕ) → length (listing_text (header_of prepared.now.stamp prepared.now.compare) prepared.now.plan.final1) ≤ limit → length (listing_text (header_of prepared.now.stamp prepared.now.compare) prepared.now.plan.final2) ≤ limit

@@ -115,10 +115,13 @@ returns-clause-base g c mode mode_is one two work base is =
     (base_unlocked mode c.args.limits.now _ _ _ f _ _ (c.in-Ok.ensures.others work)
     (base_closed mode c.args.limits.now _ _ _ _ _ _ (c.held-ended.ensures.base mode mode_is one two work) (c.close.ensures.closes work)) base is)
 
+pub returns-in-Err-clause-trees : goal.returns-in-Err-clause-trees
+returns-in-Err-clause-trees g c mode mode_is one two work = inl (untouched_same (by_side (g.A.Remote.state c.args.one.now) (g.B.Remote.state c.args.two.now)), kept_unlocked _ _ _ (c.in-Err.ensures.others work))
+
 pub returns-clause-trees : goal.returns-clause-trees
 returns-clause-trees g c mode mode_is one two work =
     let f = (g.W.Work.state c.args.work.now).folder in let m : Matter c.args.opts.now f _ = record { rules = c.in-Ok.entered.rules; digest = c.in-Ok.entered.digest; are = c.in-Ok.ensures.rules (inl work) } in
-    ⊎_elim inl (λ some. inr (c.in-Ok.ensures.free work, (m, inr (none_before mode c.args.limits.now f _ (c.in-Ok.ensures.others work) _ some.0, some.1))))
+    ⊎_elim (λ early. inl (early.0, kept_early c.args.opts.now.resilient c.args.opts.now.dry_run c.held-ended.result c.close.result c.close.ensures.end f _ _ _ (c.in-Ok.ensures.others work) (c.close.ensures.closes work) (c.close.ensures.kept work) early.1)) (λ some. inr (c.in-Ok.ensures.free work, (m, none_before mode c.args.limits.now f _ (c.in-Ok.ensures.others work) _ some.0, some.1)))
     (c.held-ended.ensures.trees mode mode_is one two work)
 
 pub returns-clause-untouched_one : goal.returns-clause-untouched_one
@@ -148,8 +151,7 @@ returns-clause-kept g c work early stays =
     (c.close.ensures.kept work (falls_closed c.args.opts.now.resilient c.args.opts.now.dry_run c.held-ended.result c.close.result c.close.ensures.end stays))
 
 pub returns-clause-only_fallen : goal.returns-clause-only_fallen
-returns-clause-only_fallen g c work early =
-    fallen_closed _ _ _ _ (c.in-Ok.ensures.others work) (c.held-ended.ensures.early (early_closed c.held-ended.result c.close.result c.close.ensures.end early) work) (c.close.ensures.closes work)
+returns-clause-only_fallen g c work early = fallen_closed _ _ _ _ (c.in-Ok.ensures.others work) (c.held-ended.ensures.early (early_closed c.held-ended.result c.close.result c.close.ensures.end early) work) (c.close.ensures.closes work)
 
 pub returns-clause-fallen : goal.returns-clause-fallen
 returns-clause-fallen g c work fell never =
@@ -193,15 +195,14 @@ pub returns-clause-built : goal.returns-clause-built
 returns-clause-built g c = closed_built _ _ c.held-ended.result c.close.result c.held-ended.ensures.well c.held-ended.ensures.causes.fault c.close.ensures.end
 
 pub returns-in-Err-clause-report : goal.returns-in-Err-clause-report
-returns-in-Err-clause-report g c mode mode_is one two sink work =
-    tells_unlocked_resync mode c.args.opts.now g.W.Work.tells _ _ _ _ c.in-Err.end (unlocked_not_after_good c.args.opts.now.filters c.in-Err.end c.in-Err.ensures.kind) (untouched_same _) (λ t. kept_unlocked _ _ _ (c.in-Err.ensures.others t))
+returns-in-Err-clause-report g c mode mode_is one two sink work = tells_unlocked_resync mode c.args.opts.now c.args.limits.now g.W.Work.tells _ _ _ _ c.in-Err.end (unlocked_not_after_good c.args.opts.now.filters c.in-Err.end c.in-Err.ensures.kind) (untouched_same _) (λ t. kept_unlocked _ _ _ (c.in-Err.ensures.others t))
 
 pub returns-clause-report : goal.returns-clause-report
 returns-clause-report g c mode mode_is one two sink work =
     let a = g.A.Remote.state c.args.one.now in let b = g.B.Remote.state c.args.two.now in let f = (g.W.Work.state c.args.work.now).folder in let m : Matter c.args.opts.now f (by_side a b) = record { rules = c.in-Ok.entered.rules; digest = c.in-Ok.entered.digest; are = c.in-Ok.ensures.rules work } in
-    tells_closed mode c.args.opts.now g.W.Work.tells f (g.W.Work.state c.close.new.work).folder (by_side a b) (by_side (g.A.Remote.state c.held-ended.new.one) (g.B.Remote.state c.held-ended.new.two)) m _
+    tells_closed mode c.args.opts.now c.args.limits.now g.W.Work.tells f (g.W.Work.state c.close.new.work).folder (by_side a b) (by_side (g.A.Remote.state c.held-ended.new.one) (g.B.Remote.state c.held-ended.new.two)) m _ _
     (g.S.Sink.state c.args.sink.now).bytes (g.S.Sink.state c.held-ended.new.sink).bytes _ _ c.held-ended.result c.close.result
-    c.held-ended.ensures.well c.held-ended.ensures.causes.fault c.close.ensures.end (λ kept t. kept_early c.args.opts.now.resilient c.args.opts.now.dry_run c.held-ended.result c.close.result c.close.ensures.end f _ _ _ (c.in-Ok.ensures.others t) (c.close.ensures.closes t) (c.close.ensures.kept t) (kept t)) (c.held-ended.ensures.report mode mode_is one two sink)
+    c.held-ended.ensures.well c.held-ended.ensures.causes.fault c.close.ensures.end (λ kept t. kept_early c.args.opts.now.resilient c.args.opts.now.dry_run c.held-ended.result c.close.result c.close.ensures.end f _ _ _ (c.in-Ok.ensures.others t) (c.close.ensures.closes t) (c.close.ensures.kept t) (kept t)) (λ ok t. none_before mode c.args.limits.now f _ (c.in-Ok.ensures.others t) _ (ok t)) (c.held-ended.ensures.report mode mode_is one two sink)
 
 -- # An ordinary run
 
@@ -215,19 +216,16 @@ pub returns-in-Err-clause-done : goal.returns-in-Err-clause-done
 returns-in-Err-clause-done g c none one two work dry only good = absurd (unlocked_not_after_good c.args.opts.now.filters c.in-Err.end c.in-Err.ensures.kind good)
 
 pub returns-in-Err-clause-run_numbers : goal.returns-in-Err-clause-run_numbers
-returns-in-Err-clause-run_numbers g c none one two work good =
-    absurd (unlocked_not_after_good c.args.opts.now.filters c.in-Err.end c.in-Err.ensures.kind (good_is_after_good c.in-Err.end good))
+returns-in-Err-clause-run_numbers g c none one two work good = absurd (unlocked_not_after_good c.args.opts.now.filters c.in-Err.end c.in-Err.ensures.kind (good_is_after_good c.in-Err.end good))
 
 pub returns-in-Err-clause-run_base : goal.returns-in-Err-clause-run_base
-returns-in-Err-clause-run_base g c none one two work base is =
-    inl (base_past (g.W.Work.state c.args.work.now).folder (g.W.Work.state c.enter.new.work).folder (c.in-Err.ensures.others work) c.args.limits.now.listing base is)
+returns-in-Err-clause-run_base g c none one two work base is = inl (base_past (g.W.Work.state c.args.work.now).folder (g.W.Work.state c.enter.new.work).folder (c.in-Err.ensures.others work) c.args.limits.now.listing base is)
 
 pub returns-in-Err-clause-resilient_base : goal.returns-in-Err-clause-resilient_base
-returns-in-Err-clause-resilient_base g c none one two work stays base is =
-    inl (base_past (g.W.Work.state c.args.work.now).folder (g.W.Work.state c.enter.new.work).folder (c.in-Err.ensures.others work) c.args.limits.now.listing base is)
+returns-in-Err-clause-resilient_base g c none one two work stays base is = inl (base_past (g.W.Work.state c.args.work.now).folder (g.W.Work.state c.enter.new.work).folder (c.in-Err.ensures.others work) c.args.limits.now.listing base is)
 
 pub returns-in-Err-clause-run_trees : goal.returns-in-Err-clause-run_trees
-returns-in-Err-clause-run_trees g c none one two work = inl (untouched_same (by_side (g.A.Remote.state c.args.one.now) (g.B.Remote.state c.args.two.now)))
+returns-in-Err-clause-run_trees g c none one two work = inl (untouched_same (by_side (g.A.Remote.state c.args.one.now) (g.B.Remote.state c.args.two.now)), kept_unlocked _ _ _ (c.in-Err.ensures.others work))
 
 pub returns-in-Err-clause-run_rest : goal.returns-in-Err-clause-run_rest
 returns-in-Err-clause-run_rest g c none work = rest_locked _ (g.W.Work.state c.args.work.now).folder (g.W.Work.state c.enter.new.work).folder (c.in-Err.ensures.others work)
@@ -291,7 +289,7 @@ returns-clause-resilient_base g c none one two work stays base is =
 pub returns-clause-run_trees : goal.returns-clause-run_trees
 returns-clause-run_trees g c none one two work =
     let f = (g.W.Work.state c.args.work.now).folder in let m : Matter c.args.opts.now f _ = record { rules = c.in-Ok.entered.rules; digest = c.in-Ok.entered.digest; are = c.in-Ok.ensures.rules (inl work) } in
-    ⊎_elim inl
+    ⊎_elim (λ early. inl (early.0, kept_early c.args.opts.now.resilient c.args.opts.now.dry_run c.held-ended.result c.close.result c.close.ensures.end f _ _ _ (c.in-Ok.ensures.others work) (c.close.ensures.closes work) (c.close.ensures.kept work) early.1))
     (λ way. inr (c.in-Ok.ensures.free work, (m, way_before c.args.opts.now c.args.limits.now _ c.in-Ok.entered.digest _ f _ (c.in-Ok.ensures.others work) way)))
     (c.held-ended.ensures.run_trees none one two work)
 
@@ -314,8 +312,7 @@ pub returns-in-Err-clause-only_base : goal.returns-in-Err-clause-only_base
 returns-in-Err-clause-only_base g c none only work = kept_unlocked _ _ _ (c.in-Err.ensures.others work)
 
 pub returns-clause-only_base : goal.returns-clause-only_base
-returns-clause-only_base g c none only work =
-    kept_early _ _ c.held-ended.result c.close.result c.close.ensures.end _ _ _ _ (c.in-Ok.ensures.others work) (c.close.ensures.closes work) (c.close.ensures.kept work) (c.held-ended.ensures.compares none only work)
+returns-clause-only_base g c none only work = kept_early _ _ c.held-ended.result c.close.result c.close.ensures.end _ _ _ _ (c.in-Ok.ensures.others work) (c.close.ensures.closes work) (c.close.ensures.kept work) (c.held-ended.ensures.compares none only work)
 
 pub returns-clause-blocked : goal.returns-clause-blocked
 returns-clause-blocked g c work = blocked_nowhere (g.W.Work.state c.args.work.now).folder _ _ _ (c.in-Ok.ensures.free work)
@@ -365,8 +362,7 @@ returns-clause-begun g c none work good =
     (c.in-Ok.ensures.free work, (m, well_before c.args.opts.now c.args.limits.now f f2 (c.in-Ok.ensures.others work) s c.in-Ok.entered.digest (on_ok c.held-ended.result ok (c.held-ended.ensures.begun none work))))
 
 pub returns-in-Err-clause-folder_base : goal.returns-in-Err-clause-folder_base
-returns-in-Err-clause-folder_base g c work =
-    folder_base_unlocked c.args.opts.now c.args.limits.now (by_side (g.A.Remote.state c.args.one.now) (g.B.Remote.state c.args.two.now)) c.in-Err.end (g.W.Work.state c.args.work.now).folder (g.W.Work.state c.enter.new.work).folder (c.in-Err.ensures.others work)
+returns-in-Err-clause-folder_base g c work = folder_base_unlocked c.args.opts.now c.args.limits.now (by_side (g.A.Remote.state c.args.one.now) (g.B.Remote.state c.args.two.now)) c.in-Err.end (g.W.Work.state c.args.work.now).folder (g.W.Work.state c.enter.new.work).folder (c.in-Err.ensures.others work)
 
 pub returns-in-Err-clause-folder_next : goal.returns-in-Err-clause-folder_next
 returns-in-Err-clause-folder_next g c work writes good = absurd (unlocked_not_after_good c.args.opts.now.filters c.in-Err.end c.in-Err.ensures.kind good)
@@ -402,11 +398,10 @@ returns-clause-set_back g c none one two work =
     (c.held-ended.ensures.set_back none one two work)
 
 pub returns-in-Err-clause-good_names : goal.returns-in-Err-clause-good_names
-returns-in-Err-clause-good_names g c none work good = locked_good c.args.limits.now.listing _ _ (c.in-Err.ensures.others work) good
+returns-in-Err-clause-good_names g c work good = locked_good c.args.limits.now.listing _ _ (c.in-Err.ensures.others work) good
 
 pub returns-clause-good_names : goal.returns-clause-good_names
-returns-clause-good_names g c none work good =
-    c.close.ensures.good_names work c.args.limits.now.listing (c.held-ended.ensures.good_names none work (locked_good c.args.limits.now.listing _ _ (c.in-Ok.ensures.others work) good))
+returns-clause-good_names g c work good = c.close.ensures.good_names work c.args.limits.now.listing (c.held-ended.ensures.good_names work (locked_good c.args.limits.now.listing _ _ (c.in-Ok.ensures.others work) good))
 
 pub returns-in-Err-clause-unlocked : goal.returns-in-Err-clause-unlocked
 returns-in-Err-clause-unlocked g c work un = c.in-Err.ensures.kept work (λ is. false_true (sym (ap is_unlocked is) ∙ un))
@@ -418,8 +413,7 @@ pub returns-in-Err-clause-mixed : goal.returns-in-Err-clause-mixed
 returns-in-Err-clause-mixed g c mode mode_is one two known = inl (untouched_same (by_side (g.A.Remote.state c.args.one.now) (g.B.Remote.state c.args.two.now)))
 
 pub returns-clause-mixed : goal.returns-clause-mixed
-returns-clause-mixed g c mode mode_is one two known =
-    ⊎_elim inl (λ mix. inr (record { rules = c.in-Ok.entered.rules; digest = c.in-Ok.entered.digest; are = c.in-Ok.ensures.rules known }, mix)) (c.held-ended.ensures.mixed mode mode_is one two)
+returns-clause-mixed g c mode mode_is one two known = ⊎_elim inl (λ mix. inr (record { rules = c.in-Ok.entered.rules; digest = c.in-Ok.entered.digest; are = c.in-Ok.ensures.rules known }, mix)) (c.held-ended.ensures.mixed mode mode_is one two)
 
 pub returns-in-Err-clause-outcome : goal.returns-in-Err-clause-outcome
 returns-in-Err-clause-outcome g c mode mode_is one two known dry good = absurd (unlocked_not_after_good c.args.opts.now.filters c.in-Err.end c.in-Err.ensures.kind good)
@@ -436,12 +430,11 @@ pub returns-clause-resync_fell : goal.returns-clause-resync_fell
 returns-clause-resync_fell g c mode mode_is work never bad =
     let still = no_rise_mid _ (g.W.Work.state c.enter.new.work).faults (g.W.Work.state c.held-ended.new.work).faults _ never c.in-Ok.ensures.causes.later.work c.close.ensures.later in
     let last = no_rise_last _ (g.W.Work.state c.enter.new.work).faults (g.W.Work.state c.held-ended.new.work).faults _ never c.in-Ok.ensures.causes.later.work c.held-ended.ensures.causes.later.work in
-    resync_fell _ c.args.opts.now.resilient c.args.opts.now.dry_run c.held-ended.result c.close.result _ (g.W.Work.state c.enter.new.work).folder (g.W.Work.state c.held-ended.new.work).folder _
-    c.held-ended.ensures.well c.close.ensures.end bad (c.in-Ok.ensures.others work) (c.held-ended.ensures.fell mode mode_is work still) (c.close.ensures.kept work) (λ falls. c.close.ensures.fell work falls last)
+    resync_fell c.args.opts.now c.in-Ok.entered.rules c.in-Ok.entered.digest _ c.held-ended.result c.close.result _ (g.W.Work.state c.enter.new.work).folder (g.W.Work.state c.held-ended.new.work).folder _ (c.in-Ok.ensures.rules (inl work))
+    c.held-ended.ensures.well c.close.ensures.end bad (c.in-Ok.ensures.others work) (c.close.ensures.closes work) (c.held-ended.ensures.fell mode mode_is work still) (c.close.ensures.kept work) (λ falls. c.close.ensures.fell work falls last)
 
 pub returns-in-Err-clause-digest_late : goal.returns-in-Err-clause-digest_late
-returns-in-Err-clause-digest_late g c mode mode_is work base is =
-    inl (base_past (g.W.Work.state c.args.work.now).folder (g.W.Work.state c.enter.new.work).folder (c.in-Err.ensures.others work) c.args.limits.now.listing base is, ap (λ (w : WorkFolder). w.filters_md5) (c.in-Err.ensures.others work).rest)
+returns-in-Err-clause-digest_late g c mode mode_is work base is = inl (base_past (g.W.Work.state c.args.work.now).folder (g.W.Work.state c.enter.new.work).folder (c.in-Err.ensures.others work) c.args.limits.now.listing base is, ap (λ (w : WorkFolder). w.filters_md5) (c.in-Err.ensures.others work).rest)
 
 pub returns-clause-digest_late : goal.returns-clause-digest_late
 returns-clause-digest_late g c mode mode_is work =

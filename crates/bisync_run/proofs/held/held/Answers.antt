@@ -1,8 +1,9 @@
-use Rattle.std.proofs.Common.{◌∙◌, sym, subst, OnOk}
+use Rattle.std.proofs.Common.{◌∙◌, sym, subst, IsTrue, OnOk}
 use Rattle.bisync_tree.specs.declared.options.Prefer.{Prefer}
 use Rattle.bisync_device.specs.Work.{KeepsFolder}
 use Rattle.bisync_model.specs.Trees.{by_side}
 use Rattle.bisync_run.specs.HeldResyncs.{TellsPlan, end_of}
+use Rattle.bisync_run.specs.ResyncRefusals.{HasNoResyncRefusal}
 use Rattle.bisync_run.specs.Resyncs.{HasOutcome, IsResynced, LeavesBase, LeavesMix, LeavesTrees}
 use Rattle.bisync_run.specs.Sides.{sides_of}
 use Rattle.bisync_run.proofs.FolderBases.{map_ok, ordinary_leaves, resync_in_place, resync_leaves}
@@ -22,7 +23,7 @@ returns-in-Some-clause-trees g c mode is one two work =
     let a = g.A.Remote.state c.args.one.now in
     let b = g.B.Remote.state c.args.two.now in
     let now = by_side (g.A.Remote.state c.resync.new.one) (g.B.Remote.state c.resync.new.two) in
-    subst (λ (m : Prefer). LeavesTrees m c.args.limits.now (g.W.Work.state c.args.work.now).folder (sides_of c.args.opts.now.compare c.args.entered.now.rules a b) (by_side a b) now)
+    subst (λ (m : Prefer). LeavesTrees m c.args.limits.now (g.W.Work.state c.args.work.now).folder (sides_of c.args.opts.now.compare c.args.entered.now.rules a b) (by_side a b) (g.W.Work.state c.resync.new.work).folder now)
     (some_same c.in-Some.mode mode (sym c.in-Some.is ∙ is)) (c.resync.ensures.trees one two work)
 
 pub returns-in-Some-clause-resynced : goal.returns-in-Some-clause-resynced
@@ -38,7 +39,8 @@ returns-in-Some-clause-report g c mode is one two sink =
     let a = g.A.Remote.state c.args.one.now in
     let b = g.B.Remote.state c.args.two.now in
     let now = by_side (g.A.Remote.state c.resync.new.one) (g.B.Remote.state c.resync.new.two) in
-    subst (λ (m : Prefer). TellsPlan m (sides_of c.args.opts.now.compare c.args.entered.now.rules a b) (by_side a b) now (KeepsFolder g.W.Work.tells (g.W.Work.state c.args.work.now) (g.W.Work.state c.resync.new.work)) (g.S.Sink.state c.args.sink.now).bytes (g.S.Sink.state c.resync.new.sink).bytes c.resync.result)
+    subst (λ (m : Prefer). TellsPlan m (sides_of c.args.opts.now.compare c.args.entered.now.rules a b) (by_side a b) now (KeepsFolder g.W.Work.tells (g.W.Work.state c.args.work.now) (g.W.Work.state c.resync.new.work))
+    (IsTrue g.W.Work.tells → HasNoResyncRefusal m c.args.limits.now (g.W.Work.state c.args.work.now).folder (sides_of c.args.opts.now.compare c.args.entered.now.rules a b)) (g.S.Sink.state c.args.sink.now).bytes (g.S.Sink.state c.resync.new.sink).bytes c.resync.result)
     (some_same c.in-Some.mode mode (sym c.in-Some.is ∙ is)) (c.resync.ensures.report one two sink)
 
 -- # What the work folder alone tells

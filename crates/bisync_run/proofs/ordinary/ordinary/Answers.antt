@@ -9,7 +9,7 @@ use Rattle.bisync_run.proofs.BeginningLaws.{begun_by, compared_begins, compared_
 use Rattle.bisync_run.proofs.BasesSetBack.{ordinary_set_back, ordinary_stands}
 use Rattle.bisync_run.proofs.CauseLaws.{fails}
 use Rattle.bisync_run.proofs.CountedRuns.{counted_since}
-use Rattle.bisync_run.proofs.DoneSteps.{looked_told}
+use Rattle.bisync_run.proofs.DoneSteps.{looked_told, untouched_same}
 use Rattle.bisync_run.proofs.EndCases.{false_true, step_may_change, told_device}
 use Rattle.bisync_run.proofs.FallsAsLaws.{falls_as_held}
 use Rattle.bisync_run.proofs.FolderBases.{kept_or_next, next_in_place, ready_to}
@@ -56,7 +56,7 @@ returns-in_default-clause-causes g c =
 
 pub returns-in-Err-plan_lines-clause-trees : goal.returns-in-Err-plan_lines-clause-trees
 returns-in-Err-plan_lines-clause-trees g c one two work =
-    inl (untouched _ _ _ _ (c.in-Ok-look_ordinary.ensures.one.tree one) (c.in-Ok-look_ordinary.ensures.two.tree two))
+    inl (untouched _ _ _ _ (c.in-Ok-look_ordinary.ensures.one.tree one) (c.in-Ok-look_ordinary.ensures.two.tree two), c.in-Ok.ensures.folder work)
 
 pub returns-in-Err-plan_lines-clause-answers : goal.returns-in-Err-plan_lines-clause-answers
 returns-in-Err-plan_lines-clause-answers g c one two work =
@@ -119,7 +119,7 @@ returns-in-Ok-carry_out_ordinary-clause-trees g c one two work =
     let more = not_only c.args.opts.now.check_sync (sym c.is_only.ensures ∙ c.if-is_only.false) in
     let look = c.in-Ok-look_ordinary.ensures.look one two f c.args.entered.now.digest (c.in-Ok.ensures.starts work) more in
     trees_held c.args.opts.now c.args.limits.now c.args.entered.now.rules c.args.entered.now.digest a b f c.in-Ok.started.stamp c.in-Ok.started.pair c.in-Ok-look_ordinary.look look a2 b2 looked windows c.if-opts.false
-    (by_side (g.A.Remote.state c.carry_out_ordinary.new.one) (g.B.Remote.state c.carry_out_ordinary.new.two)) (c.in-Ok-carry_out_ordinary.ensures.part one two)
+    (g.W.Work.state c.carry_out_ordinary.new.work).folder (by_side (g.A.Remote.state c.carry_out_ordinary.new.one) (g.B.Remote.state c.carry_out_ordinary.new.two)) (c.in-Ok-carry_out_ordinary.ensures.part one two)
 
 pub returns-in-Ok-carry_out_ordinary-clause-done : goal.returns-in-Ok-carry_out_ordinary-clause-done
 returns-in-Ok-carry_out_ordinary-clause-done g c one two work dry more =
@@ -193,7 +193,7 @@ returns-clause-trees g c one two work =
     let more = not_only c.args.opts.now.check_sync (sym c.is_only.ensures ∙ c.if-is_only.false) in
     let look = c.in-Ok-look_ordinary.ensures.look one two f c.args.entered.now.digest (c.in-Ok.ensures.starts work) more in
     trees_held c.args.opts.now c.args.limits.now c.args.entered.now.rules c.args.entered.now.digest a b f c.in-Ok.started.stamp c.in-Ok.started.pair c.in-Ok-look_ordinary.look look a2 b2 looked windows c.if-opts.false
-    (by_side (g.A.Remote.state c.carry_out_ordinary.new.one) (g.B.Remote.state c.carry_out_ordinary.new.two)) (c.in-Err-carry_out_ordinary.ensures.part one two)
+    (g.W.Work.state c.carry_out_ordinary.new.work).folder (by_side (g.A.Remote.state c.carry_out_ordinary.new.one) (g.B.Remote.state c.carry_out_ordinary.new.two)) (c.in-Err-carry_out_ordinary.ensures.part one two)
 
 pub returns-clause-answers : goal.returns-clause-answers
 returns-clause-answers g c one two work =
@@ -243,7 +243,7 @@ returns-clause-causes g c =
 
 pub returns-in_default-clause-trees : goal.returns-in_default-clause-trees
 returns-in_default-clause-trees g c one two work =
-    inl (untouched _ _ _ _ (c.in-Ok-look_ordinary.ensures.one.tree one) (c.in-Ok-look_ordinary.ensures.two.tree two))
+    inl (untouched _ _ _ _ (c.in-Ok-look_ordinary.ensures.one.tree one) (c.in-Ok-look_ordinary.ensures.two.tree two), c.in-Ok.ensures.folder work)
 
 pub returns-in_default-clause-report : goal.returns-in_default-clause-report
 returns-in_default-clause-report g c one two work sink =
@@ -251,7 +251,7 @@ returns-in_default-clause-report g c one two work sink =
 
 pub returns-then-opts-clause-trees : goal.returns-then-opts-clause-trees
 returns-then-opts-clause-trees g c one two work =
-    inl (untouched _ _ _ _ (c.in-Ok-look_ordinary.ensures.one.tree one) (c.in-Ok-look_ordinary.ensures.two.tree two))
+    inl (untouched _ _ _ _ (c.in-Ok-look_ordinary.ensures.one.tree one) (c.in-Ok-look_ordinary.ensures.two.tree two), c.in-Ok.ensures.folder work)
 
 pub returns-in-Ok-carry_out_ordinary-clause-settled : goal.returns-in-Ok-carry_out_ordinary-clause-settled
 returns-in-Ok-carry_out_ordinary-clause-settled g c work settled =
@@ -422,3 +422,12 @@ returns-in-Err-plan_lines-clause-good_names g c work = kept_good c.args.limits.n
 
 pub returns-then-opts-clause-good_names : goal.returns-then-opts-clause-good_names
 returns-then-opts-clause-good_names g c work = kept_good c.args.limits.now _ _ (c.start.ensures.folder work)
+
+pub returns-in-Err-clause-trees : goal.returns-in-Err-clause-trees
+returns-in-Err-clause-trees g c one two work = inl (untouched_same (by_side (g.A.Remote.state c.args.one.now) (g.B.Remote.state c.args.two.now)), c.start.ensures.folder work)
+
+pub returns-then-is_only-clause-trees : goal.returns-then-is_only-clause-trees
+returns-then-is_only-clause-trees g c one two work = inl (untouched_same (by_side (g.A.Remote.state c.args.one.now) (g.B.Remote.state c.args.two.now)), c.start.ensures.folder work)
+
+pub returns-in-Err-look_ordinary-clause-trees : goal.returns-in-Err-look_ordinary-clause-trees
+returns-in-Err-look_ordinary-clause-trees g c one two work = inl (untouched _ _ _ _ (c.look_ordinary.ensures.one.tree one) (c.look_ordinary.ensures.two.tree two), c.start.ensures.folder work)

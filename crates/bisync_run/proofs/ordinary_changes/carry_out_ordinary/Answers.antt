@@ -1,6 +1,7 @@
 use Rattle.std.proofs.Common.{inl, inr, ap, refl, ⊎_elim}
 use Rattle.bisync_device.specs.WorkFolder.{WorkFolder}
 use Rattle.bisync_model.specs.Trees.{by_side}
+use Rattle.bisync_run.specs.ResyncWriting.{next_base}
 use Rattle.bisync_run.proofs.BasesSetBack.{old_past, old_or_next}
 use Rattle.bisync_run.proofs.DoneSteps.{untouched_same}
 use Rattle.bisync_run.proofs.EndLaws.{rose_since}
@@ -101,13 +102,13 @@ returns-in-Err-do_steps-clause-good_names g c work limit before is good =
 
 pub returns-in-Ok-switch-clause-good_names : goal.returns-in-Ok-switch-clause-good_names
 returns-in-Ok-switch-clause-good_names g c work limit before is good =
-    switched_good limit (g.W.Work.state c.write_ordinary.new.work).folder (g.W.Work.state c.do_steps.new.work).folder (g.W.Work.state c.switch.new.work).folder before c.args.prepared
-    (c.in-Ok.ensures.set_back work limit before is) (c.do_steps.ensures.lock work) (c.switch.ensures.begun work) (c.write_ordinary.ensures.good_names work limit good)
+    switched_good limit (g.W.Work.state c.write_ordinary.new.work).folder (g.W.Work.state c.do_steps.new.work).folder (g.W.Work.state c.switch.new.work).folder (next_base c.args.prepared)
+    (c.in-Ok.ensures.set_back work limit before is).ready (c.do_steps.ensures.lock work) (c.switch.ensures.begun work) (c.write_ordinary.ensures.good_names work limit good)
 
 pub returns-clause-good_names : goal.returns-clause-good_names
 returns-clause-good_names g c work limit before is good =
-    switched_good limit (g.W.Work.state c.write_ordinary.new.work).folder (g.W.Work.state c.do_steps.new.work).folder (g.W.Work.state c.switch.new.work).folder before c.args.prepared
-    (c.in-Ok.ensures.set_back work limit before is) (c.do_steps.ensures.lock work) (c.switch.ensures.begun work) (c.write_ordinary.ensures.good_names work limit good)
+    switched_good limit (g.W.Work.state c.write_ordinary.new.work).folder (g.W.Work.state c.do_steps.new.work).folder (g.W.Work.state c.switch.new.work).folder (next_base c.args.prepared)
+    (c.in-Ok.ensures.set_back work limit before is).ready (c.do_steps.ensures.lock work) (c.switch.ensures.begun work) (c.write_ordinary.ensures.good_names work limit good)
 
 -- # A fall to come
 

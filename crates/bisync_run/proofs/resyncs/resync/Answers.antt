@@ -1,7 +1,8 @@
-use Rattle.std.proofs.Common.{◌++◌, ◌<◌, ◌^◌, ◌∙◌, ap, refl, inr, arith, ℕ, List}
+use Rattle.std.proofs.Common.{◌++◌, ◌<◌, ◌^◌, ◌∙◌, ap, refl, inl, inr, arith, ℕ, List}
 use Rattle.bisync_tree.specs.declared.sides.Side.TheVariants.{One, Two}
 use Rattle.bisync_device.specs.WorkFolder.{WorkFolder}
 use Rattle.bisync_model.specs.Trees.{by_side}
+use Rattle.bisync_run.specs.LeftNames.{FellWith}
 use Rattle.bisync_run.specs.Sides.{sides_of}
 use Rattle.bisync_run.proofs.BasesSetBack.{late_held}
 use Rattle.bisync_run.proofs.CountedRuns.{counted_since}
@@ -10,6 +11,7 @@ use Rattle.bisync_run.proofs.EndCases.{device_answers, step_may_change, told_dev
 use Rattle.bisync_run.specs.Counts.{Counts}
 use Rattle.bisync_run.proofs.FallsAsLaws.{fell_held}
 use Rattle.bisync_run.proofs.FolderBases.{carried_in_place, lost_or_next}
+use Rattle.bisync_run.proofs.GoodNames.{kept_good}
 use Rattle.bisync_run.proofs.HeldLaws.{untouched, same_windows, looked_base, are_within, aside_held, base_held, done_held, trees_held, mix_held, outcome_held, finds_held, lines_held, numbers_held}
 use Rattle.bisync_run.proofs.OwnLocks.{own_around}
 use Rattle.bisync_run.proofs.ToldGrounds.{step_told}
@@ -69,7 +71,7 @@ returns-in-Ok-carry_out-clause-trees g c one two work =
     let f = (g.W.Work.state c.args.work.now).folder in
     let f2 = (g.W.Work.state c.look_resync.new.work).folder in
     trees_held c.args.mode c.args.limits.now c.args.opts.now.compare c.args.entered.now.rules a b a2 b2 f f2 c.in-Ok.prepared (c.in-Ok.ensures.plan one two) looked windows (c.in-Ok.ensures.folder work)
-    (c.in-Ok.ensures.accepted one two work) (by_side (g.A.Remote.state c.carry_out.new.one) (g.B.Remote.state c.carry_out.new.two)) (c.in-Ok-carry_out.ensures.part one two)
+    (c.in-Ok.ensures.accepted one two work) (g.W.Work.state c.carry_out.new.work).folder (by_side (g.A.Remote.state c.carry_out.new.one) (g.B.Remote.state c.carry_out.new.two)) (c.in-Ok-carry_out.ensures.part one two)
 
 pub returns-in-Ok-carry_out-clause-resynced : goal.returns-in-Ok-carry_out-clause-resynced
 returns-in-Ok-carry_out-clause-resynced g c one two work dry =
@@ -137,7 +139,7 @@ returns-clause-trees g c one two work =
     let f = (g.W.Work.state c.args.work.now).folder in
     let f2 = (g.W.Work.state c.look_resync.new.work).folder in
     trees_held c.args.mode c.args.limits.now c.args.opts.now.compare c.args.entered.now.rules a b a2 b2 f f2 c.in-Ok.prepared (c.in-Ok.ensures.plan one two) looked windows (c.in-Ok.ensures.folder work)
-    (c.in-Ok.ensures.accepted one two work) (by_side (g.A.Remote.state c.carry_out.new.one) (g.B.Remote.state c.carry_out.new.two)) (c.in-Err-carry_out.ensures.part one two)
+    (c.in-Ok.ensures.accepted one two work) (g.W.Work.state c.carry_out.new.work).folder (by_side (g.A.Remote.state c.carry_out.new.one) (g.B.Remote.state c.carry_out.new.two)) (c.in-Err-carry_out.ensures.part one two)
 
 pub returns-clause-answers : goal.returns-clause-answers
 returns-clause-answers g c one two work =
@@ -175,6 +177,7 @@ returns-clause-report g c one two sink =
     let f = (g.W.Work.state c.args.work.now).folder in
     inr (inr (
       step_may_change c.in-Err-carry_out.end c.in-Err-carry_out.ensures.end,
+      (λ work. c.in-Ok.ensures.accepted one two work),
       c.in-Ok-plan_lines.ensures.bytes sink
           ∙ ap (λ (l : List ℕ). (g.S.Sink.state c.args.sink.now).bytes ++ l)
           (lines_held c.args.mode c.args.limits.now c.args.opts.now.compare c.args.entered.now.rules a b a2 b2 f f c.in-Ok.prepared (c.in-Ok.ensures.plan one two) looked windows refl),
@@ -259,7 +262,7 @@ returns-in-Ok-carry_out-clause-outcome g c one two dry =
 
 pub returns-clause-fell : goal.returns-clause-fell
 returns-clause-fell g c work never =
-    inr (fell_held _ (g.W.Work.state c.look_resync.new.work).folder _ _ (g.W.Work.state c.look_resync.new.work).faults (g.W.Work.state c.carry_out.new.work).faults (c.in-Ok.ensures.folder work)
+    inr (fell_held (λ (h : WorkFolder). FellWith c.args.entered.now.digest h (g.W.Work.state c.carry_out.new.work).folder) _ (g.W.Work.state c.look_resync.new.work).folder _ (g.W.Work.state c.look_resync.new.work).faults (g.W.Work.state c.carry_out.new.work).faults (c.in-Ok.ensures.folder work)
     (ap (λ (k : Counts). k.work) (c.in-Ok.ensures.causes.good refl)) (c.in-Err-carry_out.ensures.fell work) never)
 
 -- # The numbers of changes
@@ -269,3 +272,87 @@ returns-in-Ok-carry_out-clause-counted g c =
     counted_since g.A.Remote.tells g.B.Remote.tells (g.A.Remote.state c.args.one.now) (g.B.Remote.state c.args.two.now) (g.A.Remote.state c.look_resync.new.one) (g.B.Remote.state c.look_resync.new.two)
     c.in-Ok.ensures.one.tree c.in-Ok.ensures.two.tree (by_side (g.A.Remote.state c.carry_out.new.one) (g.B.Remote.state c.carry_out.new.two))
     c.in-Ok-carry_out.changes.one c.in-Ok-carry_out.changes.two c.in-Ok-carry_out.ensures.counted
+
+pub returns-in-Ok-carry_out-clause-good_names : goal.returns-in-Ok-carry_out-clause-good_names
+returns-in-Ok-carry_out-clause-good_names g c work good =
+    let fits = are_within c.args.limits.now c.in-Ok.prepared c.in-Ok.ensures.within1 c.in-Ok.ensures.within2 in
+    c.in-Ok-carry_out.ensures.good_names work c.args.limits.now.listing fits (kept_good c.args.limits.now (g.W.Work.state c.args.work.now).folder (g.W.Work.state c.look_resync.new.work).folder (c.in-Ok.ensures.folder work) good)
+
+pub returns-clause-good_names : goal.returns-clause-good_names
+returns-clause-good_names g c work good =
+    let fits = are_within c.args.limits.now c.in-Ok.prepared c.in-Ok.ensures.within1 c.in-Ok.ensures.within2 in
+    c.in-Err-carry_out.ensures.good_names work c.args.limits.now.listing fits (kept_good c.args.limits.now (g.W.Work.state c.args.work.now).folder (g.W.Work.state c.look_resync.new.work).folder (c.in-Ok.ensures.folder work) good)
+
+pub returns-in-Err-clause-good_names : goal.returns-in-Err-clause-good_names
+returns-in-Err-clause-good_names g c work = kept_good c.args.limits.now _ _ (c.look_resync.ensures.folder work)
+
+pub returns-in_default-clause-good_names : goal.returns-in_default-clause-good_names
+returns-in_default-clause-good_names g c work = kept_good c.args.limits.now _ _ (c.look_resync.ensures.folder work)
+
+pub returns-in-Err-plan_lines-clause-good_names : goal.returns-in-Err-plan_lines-clause-good_names
+returns-in-Err-plan_lines-clause-good_names g c work = kept_good c.args.limits.now _ _ (c.look_resync.ensures.folder work)
+
+pub returns-then-opts-clause-good_names : goal.returns-then-opts-clause-good_names
+returns-then-opts-clause-good_names g c work = kept_good c.args.limits.now _ _ (c.look_resync.ensures.folder work)
+
+pub returns-then-opts-clause-report : goal.returns-then-opts-clause-report
+returns-then-opts-clause-report g c one two sink =
+    let a = g.A.Remote.state c.args.one.now in
+    let b = g.B.Remote.state c.args.two.now in
+    let a2 = g.A.Remote.state c.look_resync.new.one in
+    let b2 = g.B.Remote.state c.look_resync.new.two in
+    let looked = untouched a b a2 b2 (c.in-Ok.ensures.one.tree one) (c.in-Ok.ensures.two.tree two) in
+    let windows = same_windows a b a2 b2 c.in-Ok.ensures.one.window c.in-Ok.ensures.two.window in
+    let f = (g.W.Work.state c.args.work.now).folder in (
+      (λ work. c.in-Ok.ensures.accepted one two work),
+      c.in-Ok-plan_lines.ensures.bytes sink
+          ∙ ap (λ (l : List ℕ). (g.S.Sink.state c.args.sink.now).bytes ++ l)
+          (lines_held c.args.mode c.args.limits.now c.args.opts.now.compare c.args.entered.now.rules a b a2 b2 f f c.in-Ok.prepared (c.in-Ok.ensures.plan one two) looked windows refl),
+    )
+
+pub returns-in-Ok-carry_out-clause-report : goal.returns-in-Ok-carry_out-clause-report
+returns-in-Ok-carry_out-clause-report g c one two sink =
+    let a = g.A.Remote.state c.args.one.now in
+    let b = g.B.Remote.state c.args.two.now in
+    let a2 = g.A.Remote.state c.look_resync.new.one in
+    let b2 = g.B.Remote.state c.look_resync.new.two in
+    let looked = untouched a b a2 b2 (c.in-Ok.ensures.one.tree one) (c.in-Ok.ensures.two.tree two) in
+    let windows = same_windows a b a2 b2 c.in-Ok.ensures.one.window c.in-Ok.ensures.two.window in
+    let f = (g.W.Work.state c.args.work.now).folder in (
+      (λ work. c.in-Ok.ensures.accepted one two work),
+      c.in-Ok-plan_lines.ensures.bytes sink
+          ∙ ap (λ (l : List ℕ). (g.S.Sink.state c.args.sink.now).bytes ++ l)
+          (lines_held c.args.mode c.args.limits.now c.args.opts.now.compare c.args.entered.now.rules a b a2 b2 f f c.in-Ok.prepared (c.in-Ok.ensures.plan one two) looked windows refl),
+    )
+
+pub returns-in-Err-clause-trees : goal.returns-in-Err-clause-trees
+returns-in-Err-clause-trees g c one two work =
+    let a = g.A.Remote.state c.args.one.now in
+    let b = g.B.Remote.state c.args.two.now in
+    let a2 = g.A.Remote.state c.look_resync.new.one in
+    let b2 = g.B.Remote.state c.look_resync.new.two in
+    inl (untouched a b a2 b2 (c.look_resync.ensures.one.tree one) (c.look_resync.ensures.two.tree two), c.look_resync.ensures.folder work)
+
+pub returns-in_default-clause-trees : goal.returns-in_default-clause-trees
+returns-in_default-clause-trees g c one two work =
+    let a = g.A.Remote.state c.args.one.now in
+    let b = g.B.Remote.state c.args.two.now in
+    let a2 = g.A.Remote.state c.look_resync.new.one in
+    let b2 = g.B.Remote.state c.look_resync.new.two in
+    inl (untouched a b a2 b2 (c.look_resync.ensures.one.tree one) (c.look_resync.ensures.two.tree two), c.look_resync.ensures.folder work)
+
+pub returns-in-Err-plan_lines-clause-trees : goal.returns-in-Err-plan_lines-clause-trees
+returns-in-Err-plan_lines-clause-trees g c one two work =
+    let a = g.A.Remote.state c.args.one.now in
+    let b = g.B.Remote.state c.args.two.now in
+    let a2 = g.A.Remote.state c.look_resync.new.one in
+    let b2 = g.B.Remote.state c.look_resync.new.two in
+    inl (untouched a b a2 b2 (c.look_resync.ensures.one.tree one) (c.look_resync.ensures.two.tree two), c.look_resync.ensures.folder work)
+
+pub returns-then-opts-clause-trees : goal.returns-then-opts-clause-trees
+returns-then-opts-clause-trees g c one two work =
+    let a = g.A.Remote.state c.args.one.now in
+    let b = g.B.Remote.state c.args.two.now in
+    let a2 = g.A.Remote.state c.look_resync.new.one in
+    let b2 = g.B.Remote.state c.look_resync.new.two in
+    inl (untouched a b a2 b2 (c.look_resync.ensures.one.tree one) (c.look_resync.ensures.two.tree two), c.look_resync.ensures.folder work)

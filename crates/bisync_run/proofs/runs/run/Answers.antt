@@ -1,4 +1,5 @@
-use Rattle.std.proofs.Common.{◌≡◌, ◌<◌, ◌^◌, ◌∙◌, ◌++◌, ap, arith, inl, inr, sym, subst, true, List, ℕ}
+use Rattle.std.proofs.Common.{◌≡◌, ◌<◌, ◌^◌, ◌∙◌, ◌++◌, ap, arith, inl, inr, ⊎_elim, sym, subst, true, List, ℕ}
+use Rattle.std.proofs.lemmas.List.{append_assoc}
 use Rattle.bisync_device.specs.Sink.{SinkState}
 use Rattle.bisync_model.specs.Trees.{by_side}
 use Rattle.bisync_tree.specs.declared.sides.Side.TheVariants.{One, Two}
@@ -13,7 +14,7 @@ use Rattle.bisync_run.proofs.BasesSetBack.{set_back_left}
 use Rattle.bisync_run.proofs.BeginningLaws.{begins_told}
 use Rattle.bisync_run.proofs.BuiltEnds.{told_built}
 use Rattle.bisync_run.proofs.ClosedEnds.{tells_last}
-use Rattle.bisync_run.proofs.ClosedKinds.{no_rise_first, own_told, early_told, fell_told, unfallen_told, freed_told, held_told, bad_told, before_told, unlocked_told}
+use Rattle.bisync_run.proofs.ClosedKinds.{no_rise_first, own_told, early_told, fell_told, kept_told, unfallen_told, freed_told, held_told, bad_told, before_told, unlocked_told}
 use Rattle.bisync_run.proofs.CountedRuns.{counted_told}
 use Rattle.bisync_run.proofs.InSyncRuns.{in_sync_after, resync_in_sync_after, was_apart}
 use Rattle.bisync_run.proofs.EndLaws.{no_rise_since}
@@ -74,12 +75,7 @@ returns-clause-images g c mode is one two work settled image image_is =
     (images mode c.args.opts.now c.args.limits.now f start h image now (c.run_to_close-end.ensures.base mode is one two work) (c.run_to_close-end.ensures.settled work settled) image_is)
 
 pub returns-clause-trees : goal.returns-clause-trees
-returns-clause-trees g c mode is one two work =
-    let f = (g.W.Work.state c.args.work.now).folder in
-    let start = by_side (g.A.Remote.state c.args.one.now) (g.B.Remote.state c.args.two.now) in
-    let h = (g.W.Work.state c.run_to_close-end.new.work).folder in
-    let now = by_side (g.A.Remote.state c.run_to_close-end.new.one) (g.B.Remote.state c.run_to_close-end.new.two) in
-    (c.run_to_close-end.ensures.trees mode is one two work)
+returns-clause-trees g c mode is one two work = ⊎_elim (λ early. inl (early.0, kept_told c.args.opts.now c.run_to_close-end.result c.tell_end.result _ _ c.tell_end.ensures.end early.1)) inr (c.run_to_close-end.ensures.trees mode is one two work)
 
 pub returns-clause-set_aside : goal.returns-clause-set_aside
 returns-clause-set_aside g c mode is work dry good =
@@ -148,17 +144,21 @@ returns-clause-only_quiet g c none only sink never =
     ∙ ap (λ (e : End). before.bytes ++ last_text e) (sym told)
 
 pub returns-clause-lines : goal.returns-clause-lines
-returns-clause-lines g c sink never =
+returns-clause-lines g c sink =
     let before = g.S.Sink.state c.args.sink.now in
     let mid = g.S.Sink.state c.run_to_close-end.new.sink in
     let after = g.S.Sink.state c.tell_end.new.sink in
-    let still = no_rise_since before.faults mid.faults after.faults never c.run_to_close-end.ensures.later.sink in
-    let told = told_same c.run_to_close-end.result c.tell_end.result mid.faults after.faults c.tell_end.ensures.end c.tell_end.ensures.failed still in
-    let some = c.run_to_close-end.ensures.lines sink in (
-      some.0,
-      c.tell_end.ensures.bytes sink still
-          ∙ ap (λ (l : List ℕ). l ++ last_text c.run_to_close-end.result) some.1
-          ∙ ap (λ (e : End). (before.bytes ++ some.0) ++ last_text e) (sym told),
+    let some = c.run_to_close-end.ensures.lines sink in
+    let more = c.tell_end.ensures.adds sink in (
+      (some.0 ++ more.0, more.1 ∙ ap (λ (l : List ℕ). l ++ more.0) some.1 ∙ append_assoc before.bytes some.0 more.0),
+      λ never.
+          let still = no_rise_since before.faults mid.faults after.faults never c.run_to_close-end.ensures.later.sink in
+          let told = told_same c.run_to_close-end.result c.tell_end.result mid.faults after.faults c.tell_end.ensures.end c.tell_end.ensures.failed still in (
+            some.0,
+            c.tell_end.ensures.bytes sink still
+                ∙ ap (λ (l : List ℕ). l ++ last_text c.run_to_close-end.result) some.1
+                ∙ ap (λ (e : End). (before.bytes ++ some.0) ++ last_text e) (sym told),
+          ),
     )
 
 pub returns-clause-built : goal.returns-clause-built
@@ -175,8 +175,8 @@ returns-clause-report g c mode is one two sink work never =
     let after = g.S.Sink.state c.tell_end.new.sink in
     let still = no_rise_since before.faults mid.faults after.faults never c.run_to_close-end.ensures.later.sink in
     let told = told_same c.run_to_close-end.result c.tell_end.result mid.faults after.faults c.tell_end.ensures.end c.tell_end.ensures.failed still in
-    (subst (λ (e : End). TellsRun mode c.args.opts.now g.W.Work.tells f start h now before.bytes (last_text e) after.bytes e) (sym told)
-    (tells_last mode c.args.opts.now g.W.Work.tells f start h now before.bytes mid.bytes after.bytes (last_text c.run_to_close-end.result) c.run_to_close-end.result
+    (subst (λ (e : End). TellsRun mode c.args.opts.now c.args.limits.now g.W.Work.tells f start h now before.bytes (last_text e) after.bytes e) (sym told)
+    (tells_last mode c.args.opts.now c.args.limits.now g.W.Work.tells f start h now before.bytes mid.bytes after.bytes (last_text c.run_to_close-end.result) c.run_to_close-end.result
     (c.run_to_close-end.ensures.report mode is one two sink work) (c.tell_end.ensures.bytes sink still)))
 
 -- # An ordinary run
@@ -212,7 +212,7 @@ pub returns-clause-resilient_base : goal.returns-clause-resilient_base
 returns-clause-resilient_base g c none one two work stays = c.run_to_close-end.ensures.resilient_base none one two work stays
 
 pub returns-clause-run_trees : goal.returns-clause-run_trees
-returns-clause-run_trees g c none one two work = c.run_to_close-end.ensures.run_trees none one two work
+returns-clause-run_trees g c none one two work = ⊎_elim (λ early. inl (early.0, kept_told c.args.opts.now c.run_to_close-end.result c.tell_end.result _ _ c.tell_end.ensures.end early.1)) inr (c.run_to_close-end.ensures.run_trees none one two work)
 
 pub returns-clause-run_rest : goal.returns-clause-run_rest
 returns-clause-run_rest g c none work =
@@ -246,7 +246,7 @@ returns-clause-safe g c none one two work settled image image_is =
     let h = (g.W.Work.state c.run_to_close-end.new.work).folder in
     let now = by_side (g.A.Remote.state c.run_to_close-end.new.one) (g.B.Remote.state c.run_to_close-end.new.two) in
     let small : c.args.limits.now.listing < 2 ^ 64 = omega arith in
-    keeps_safe c.args.opts.now c.args.limits.now small f start g.C.Clock.tells (g.C.Clock.moment c.args.clock.now) image now
+    keeps_safe c.args.opts.now c.args.limits.now small f start g.C.Clock.tells (g.C.Clock.moment c.args.clock.now) c.run_to_close-end.result h image now
     (run_images c.args.opts.now c.args.limits.now f start h image now (c.run_to_close-end.ensures.run_base none one two work) (c.run_to_close-end.ensures.settled work settled) image_is)
     (c.run_to_close-end.ensures.run_trees none one two work)
 
@@ -359,8 +359,8 @@ returns-clause-counted2 g c tells first second is =
     counted_told (by_side g.A.Remote.tells g.B.Remote.tells) start now c.run_to_close-end.result c.tell_end.result c.tell_end.ensures.end c.run_to_close-end.ensures.counted first second is Two tells
 
 pub returns-clause-good_names : goal.returns-clause-good_names
-returns-clause-good_names g c none work left is =
-    good_left c.args.limits.now (g.W.Work.state c.args.work.now).folder (g.W.Work.state c.run_to_close-end.new.work).folder left (c.run_to_close-end.ensures.good_names none work) (c.run_to_close-end.ensures.settled work) is
+returns-clause-good_names g c work left is =
+    good_left c.args.limits.now (g.W.Work.state c.args.work.now).folder (g.W.Work.state c.run_to_close-end.new.work).folder left (c.run_to_close-end.ensures.good_names work) (c.run_to_close-end.ensures.settled work) is
 
 pub returns-clause-set_back : goal.returns-clause-set_back
 returns-clause-set_back g c none one two work left is =
