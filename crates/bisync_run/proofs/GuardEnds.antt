@@ -14,7 +14,7 @@ use Rattle.bisync_report.specs.declared.ends.End.{End}
 use Rattle.bisync_run.specs.Counts.{Counts, Stops, HasCauses}
 use Rattle.bisync_run.specs.OrdinaryEnds.{IsUnplannedOrdinaryEnd}
 use Rattle.bisync_run.specs.OrdinaryLooks.{guard_end, IsGuardEnd}
-use Rattle.bisync_run.proofs.CauseLaws.{same_later}
+use Rattle.bisync_run.proofs.CauseLaws.{same_later, stand_still}
 
 some_of : (o : Option (List ℕ)) (P : List ℕ → Type 0) → IsSomeAnd o P → IsSome o
 some_of None P h = absurd h
@@ -45,4 +45,4 @@ stopped a b first end (inr x) = subst (Stops a b) (sym x.2) (guard_stops a b x.0
 
 -- that a guard stops a run is no fault of a device
 pub guard_caused : {T : Type 0} (a : Counts) (first : Option Guard) (end : End) → IsGuardEnd first end → HasCauses {T = T} a a (Err end)
-guard_caused a first end is = record { later = same_later a; good = λ (ok : false ≡ true). cc; fault = stopped a a first end is }
+guard_caused a first end is = record { later = same_later a; good = λ (ok : false ≡ true). cc; fault = stopped a a first end is; remotes = stand_still a end }

@@ -1,5 +1,5 @@
 -- What looking at the sides of a run that holds the lock came to, said of the folder without it, once the lock is freed.
-use Rattle.std.proofs.Common.{◌≡◌, ◌≤◌, subst, sym, inl, inr, ⊎_elim, true, false, arith, Bool, ℕ, ℤ, List, Option, Result, Ok, Err}
+use Rattle.std.proofs.Common.{◌≡◌, ◌≤◌, ap, refl, subst, sym, inl, inr, ⊎_elim, true, false, arith, Bool, ℕ, ℤ, List, Option, Result, Ok, Err}
 use Rattle.std.specs.Prelude.{IfOk, IfErr}
 use Rattle.bisync_tree.specs.declared.sides.Side.TheVariants.{One, Two}
 use Rattle.bisync_tree.specs.declared.options.Limits.{Limits}
@@ -9,7 +9,7 @@ use Rattle.bisync_report.specs.declared.ends.End.{End}
 use Rattle.bisync_report.specs.declared.ends.End.TheVariants.{Done, DryRun, InSync, WorkFault, RemoteFault, SinkFault, LockLeft, OutOfMemory}
 use Rattle.bisync_work.specs.declared.bases.Pair.{Pair}
 use Rattle.bisync_work.specs.Locks.{ChangesLock, IsFree}
-use Rattle.bisync_run.specs.Counts.{counts, HasCauses}
+use Rattle.bisync_run.specs.Counts.{Counts, counts, HasCauses}
 use Rattle.bisync_run.specs.Courses.{IsLook}
 use Rattle.bisync_run.specs.Entering.{AtMoment}
 use Rattle.bisync_run.specs.LookRuns.{CountsFree, FreesWith, IsLookFrom, IsLookOf}
@@ -21,6 +21,7 @@ use Rattle.bisync_run.specs.Sides.{Sides}
 use Rattle.bisync_run.specs.Untouched.{Remotes}
 use Rattle.bisync_run.specs.declared.looks.Look.{Look}
 use Rattle.bisync_run.specs.declared.starting.Started.{Started}
+use Rattle.bisync_run.proofs.CauseLaws.{stand_past}
 use Rattle.bisync_run.proofs.CoursesBefore.{course_before, run_answers_before}
 use Rattle.bisync_run.proofs.EndLaws.{le_same, rose_within, stops_later}
 
@@ -76,6 +77,7 @@ freed_causes a b w a2 b2 w2 w3 (Ok made) result causes more is (inr left) =
       later = record { one = was.one; two = was.two; work = later_still w w2 w3 was.work more; sink = was.sink };
       good = λ (ok : false ≡ true). cc;
       fault = rose_within w w2 w3 w3 was.work (le_same w3) left.1;
+      remotes = (ap Counts.one (causes.good refl), ap Counts.two (causes.good refl));
     })
 freed_causes a b w a2 b2 w2 w3 (Err end) result causes more is counted =
     let was = causes.later in
@@ -84,6 +86,7 @@ freed_causes a b w a2 b2 w2 w3 (Err end) result causes more is counted =
       later = record { one = was.one; two = was.two; work = later_still w w2 w3 was.work more; sink = was.sink };
       good = λ (ok : false ≡ true). cc;
       fault = stops_later (counts a b w 0) (counts a2 b2 w2 0) (counts a2 b2 w3 0) end causes.fault (record { one = le_same a2; two = le_same b2; work = more; sink = le_same 0 });
+      remotes = stand_past a b w 0 a2 b2 w2 0 w 0 w3 0 end causes.remotes;
     })
 
 -- # Said of the folder at entry

@@ -8,7 +8,7 @@ use Rattle.bisync_report.specs.declared.ends.End.TheVariants.{WorkFault, RemoteF
 use Rattle.bisync_run.specs.Counts.{Counts, counts, HasCauses, Stops}
 use Rattle.bisync_run.specs.LockNew.{KeepsLockNew}
 use Rattle.bisync_run.specs.Stepping.{IsStepEnd}
-use Rattle.bisync_run.proofs.CauseLaws.{nothing_failed, same_later}
+use Rattle.bisync_run.proofs.CauseLaws.{nothing_failed, same_later, stand_past, stand_still}
 
 -- a part that went well left the counts as they were
 pub since : {T : Type 0} (old mid new : Counts) (r : Result T End) → mid ≡ old → HasCauses mid new r → HasCauses old new r
@@ -18,12 +18,12 @@ pub well : {T : Type 0} (old new : Counts) (x : T) → new ≡ old → HasCauses
 well old new x same = subst (λ (k : Counts). HasCauses old k (Ok x)) (sym same) (nothing_failed old x)
 
 pub stopped : {T : Type 0} (old : Counts) (end : End) → Stops old old end → HasCauses {T = T} old old (Err end)
-stopped old end why = record { later = same_later old; good = λ (ok : false ≡ true). cc; fault = why }
+stopped old end why = record { later = same_later old; good = λ (ok : false ≡ true). cc; fault = why; remotes = stand_still old end }
 
 pub sunk : {T : Type 0} (one two work before now : ℕ) → HasCause true before now → HasCauses {T = T} (counts one two work before) (counts one two work now) (Err (SinkFault false))
 sunk one two work before now h =
     let same = same_later (counts one two work before) in
-    record { later = record { one = same.one; two = same.two; work = same.work; sink = h.later }; good = λ (ok : false ≡ true). cc; fault = h.rose refl }
+    record { later = record { one = same.one; two = same.two; work = same.work; sink = h.later }; good = λ (ok : false ≡ true). cc; fault = h.rose refl; remotes = (refl, refl) }
 
 pub told_same : (a b w s a2 b2 w2 s2 : ℕ) → counts a b w2 s ≡ counts a b w s → counts a2 b2 w2 s ≡ counts a b w2 s → s2 ≡ s → counts a2 b2 w2 s2 ≡ counts a b w s
 told_same a b w s a2 b2 w2 s2 started looked told = ap (λ (n : ℕ). counts a2 b2 w2 n) told ∙ looked ∙ started
@@ -45,7 +45,7 @@ pub unsunk : {T U : Type 0} (a b w a2 b2 w2 s : ℕ) (end : End) → IsStepEnd e
 unsunk a b w a2 b2 w2 s end is h =
     let later = h.later in
     let same = same_later (counts a b w s) in
-    record { later = record { one = later.one; two = later.two; work = later.work; sink = same.sink }; good = λ (ok : false ≡ true). cc; fault = step_stops a b w a2 b2 w2 s end is h.fault }
+    record { later = record { one = later.one; two = later.two; work = later.work; sink = same.sink }; good = λ (ok : false ≡ true). cc; fault = step_stops a b w a2 b2 w2 s end is h.fault; remotes = stand_past a b w 0 a2 b2 w2 0 w s w2 s end h.remotes }
 
 pub done_same : {T : Type 0} (a b w a2 b2 w2 s : ℕ) (x : T) → HasCauses (counts a b w 0) (counts a2 b2 w2 0) (Ok x) → counts a2 b2 w2 s ≡ counts a b w s
 done_same a b w a2 b2 w2 s x h = ap (λ (k : Counts). counts k.one k.two k.work s) (h.good refl)

@@ -62,8 +62,8 @@ step_kind opts compare more end x = absurd x
 module _ (compare : Compare) (one two : Rows) where
   pub compared_causes : (old : Counts) (result : Result End End) → ComparesBase compare one two result → HasCauses old old result
   compared_causes old (Ok InSync) x = nothing_failed old InSync
-  compared_causes old (Err (ListingsDiffer p first second)) x = record { later = same_later old; good = λ (ok : false ≡ true). cc; fault = tt }
-  compared_causes old (Err OutOfMemory) x = record { later = same_later old; good = λ (ok : false ≡ true). cc; fault = tt }
+  compared_causes old (Err (ListingsDiffer p first second)) x = record { later = same_later old; good = λ (ok : false ≡ true). cc; fault = tt; remotes = (refl, refl) }
+  compared_causes old (Err OutOfMemory) x = record { later = same_later old; good = λ (ok : false ≡ true). cc; fault = tt; remotes = (refl, refl) }
   compared_causes old result x = absurd x
 
   pub compared_tells : (opts : Opts) (limits : Limits) (f : WorkFolder) (s : Sides) (digest : Option (List ℕ)) (start : Remotes) (before : List ℕ)

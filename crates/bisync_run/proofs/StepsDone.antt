@@ -24,7 +24,7 @@ use Rattle.bisync_work.specs.Locks.{ChangesLock}
 use Rattle.bisync_report.specs.declared.ends.End.{End}
 use Rattle.bisync_report.specs.declared.ends.End.TheVariants.{WorkFault}
 use Rattle.bisync_run.specs.CountedChanges.{HasCounted}
-use Rattle.bisync_run.specs.Counts.{counts, Stops, HasCauses}
+use Rattle.bisync_run.specs.Counts.{counts, Stops, HasCauses, RemotesStand}
 use Rattle.bisync_run.specs.LockNew.{KeepsLockNew}
 use Rattle.bisync_run.specs.Stepping.{IsPartDone, FindsAll, end_of_step}
 use Rattle.bisync_run.proofs.AsPlanned.{AreAsPlanned, goes_planned}
@@ -194,6 +194,12 @@ fault_stops one two one' two' work work' step (fault.RemoteFault One) a b = a.ro
 fault_stops one two one' two' work work' step (fault.RemoteFault Two) a b = b.rose refl
 fault_stops one two one' two' work work' step (fault.Moved side listed read) a b = tt
 
+fault_stands : (one two one' two' work work' : ℕ) (step : Step) (answer : StepFault)
+    → HasCause (is_fault_of One (Err answer)) one one' → HasCause (is_fault_of Two (Err answer)) two two' → RemotesStand (counts one two work 0) (counts one' two' work' 0) (end_of_step step answer)
+fault_stands one two one' two' work work' step (fault.RemoteFault One) a b = b.kept refl
+fault_stands one two one' two' work work' step (fault.RemoteFault Two) a b = a.kept refl
+fault_stands one two one' two' work work' step (fault.Moved side listed read) a b = (a.kept refl, b.kept refl)
+
 not_ok : false ≡ true → ⊥
 not_ok e = cc
 
@@ -208,6 +214,7 @@ causes_end one two before1 before2 one' two' work work' step answer end is first
       later = record { one = c.later; two = d.later; work = omega (arith, same); sink = omega arith };
       good = λ ok. absurd (not_ok ok);
       fault = subst (Stops (counts one two work 0) (counts one' two' work' 0)) (sym is) (fault_stops one two one' two' work work' step answer c d);
+      remotes = subst (RemotesStand (counts one two work 0) (counts one' two' work' 0)) (sym is) (fault_stands one two one' two' work work' step answer c d);
     }
 
 pub causes_lock : {T : Type 0} (one two one' two' work before work' : ℕ) → one' ≡ one → two' ≡ two → before ≡ work → HasCause true before work'
@@ -218,6 +225,7 @@ causes_lock one two one' two' work before work' a b is cause =
       later = record { one = omega (arith, a); two = omega (arith, b); work = c.later; sink = omega arith };
       good = λ ok. absurd (not_ok ok);
       fault = c.rose refl;
+      remotes = (a, b);
     }
 
 pub causes_none : {T : Type 0} (one two one' two' work work' : ℕ) (x : T) → one' ≡ one → two' ≡ two → work' ≡ work → HasCauses (counts one two work 0) (counts one' two' work' 0) (Ok x)
@@ -225,4 +233,5 @@ causes_none one two one' two' work work' x a b c = record {
   later = record { one = omega (arith, a); two = omega (arith, b); work = omega (arith, c); sink = omega arith };
   good = λ ok i. counts (a i) (b i) (c i) 0;
   fault = tt;
+  remotes = tt;
 }

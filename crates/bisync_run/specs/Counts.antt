@@ -61,11 +61,18 @@ Stops old new (KeepFault side) = ⊥
 Stops old new (Checked differ) = ⊥
 Stops old new NotBuilt = ⊥
 
--- of a part of a run: no count falls, all stay where it is Ok, and an end that names a fault has its cause
+-- a remote's count stays, but where the end tells a fault of it
+abbrev pub RemotesStand : Counts → Counts → End → Type 0
+RemotesStand old new (RemoteFault One) = new.two ≡ old.two
+RemotesStand old new (RemoteFault Two) = new.one ≡ old.one
+RemotesStand old new end = (new.one ≡ old.one) × (new.two ≡ old.two)
+
+-- of a part of a run: no count falls, all stay where it is Ok, an end that names a fault has its cause, and no other remote failed
 pub record HasCauses {T : Type 0} (old new : Counts) (result : Result T End) : Type 0 where
   pub later : Later old new
   pub good : IsOk result → new ≡ old
   pub fault : IfErr result (Stops old new)
+  pub remotes : IfErr result (RemotesStand old new)
 
 -- of a whole run; where a good end was lost, to the lock or to the last line, the counts before that call stood
 abbrev pub Ends : Counts → Counts → End → Type 0
@@ -104,3 +111,7 @@ Ends old new (Usage kind) = ⊥
 Ends old new (FoldersLeft cause) = ⊥
 Ends old new (KeepFault side) = ⊥
 Ends old new (Checked differ) = ⊥
+
+-- so it ends, and no other remote failed
+abbrev pub IsCaused : Counts → Counts → End → Type 0
+IsCaused old new end = Ends old new end × RemotesStand old new end

@@ -9,7 +9,7 @@ pub use Rattle.bisync_work.specs.Moves.{IsFallen}
 pub use Rattle.bisync_run.specs.Agreement.{LeavesInSync, LeavesResyncInSync, WasApartBefore}
 pub use Rattle.bisync_run.specs.Beginnings.{AnswersBeginningOf, IsWellBegunOf}
 pub use Rattle.bisync_run.specs.Closing.{AddsLast, HasNoListings, but_fallen_or_lock}
-pub use Rattle.bisync_run.specs.Counts.{counts, Later, Ends}
+pub use Rattle.bisync_run.specs.Counts.{counts, Later, IsCaused}
 pub use Rattle.bisync_run.specs.EndKinds.{is_good, is_after_good, has_freed, is_before_lock, is_unlocked, lets_fall, may_have_changed, may_tell_plan}
 pub use Rattle.bisync_run.specs.Entering.{AtMoment, HasSomeRules, IsEntryEnd, IsHeldBack}
 pub use Rattle.bisync_run.specs.FilterRules.{KnowsRules}

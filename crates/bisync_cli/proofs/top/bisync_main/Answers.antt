@@ -13,7 +13,7 @@ returns-in-Err-OutOfMemory-clause-images g c =
 
 pub returns-clause-end : goal.returns-clause-end
 returns-clause-end g c =
-    ends_run _ _ c.in-Ok-Run.opts _ _ c.run-end.result c.in-Ok-Run.ensures.read.ok c.in-Ok-Run.field-0-is c.run-end.ensures.built c.run-end.ensures.causes
+    ends_run _ _ c.in-Ok-Run.opts _ _ c.run-end.result c.in-Ok-Run.ensures.read.ok c.in-Ok-Run.field-0-is c.run-end.ensures.built c.run-end.ensures.causes.0
 
 pub returns-clause-answers : goal.returns-clause-answers
 returns-clause-answers g c = of_run _ _ _ _ c.in-Ok-Run.ensures.read.ok c.in-Ok-Run.field-0-is c.run-end.ensures.answers

@@ -3,7 +3,7 @@ use Rattle.std.proofs.lemmas.List.{append-nil}
 use Rattle.bisync_device.specs.WorkFolder.{WorkFolder}
 use Rattle.bisync_model.specs.Trees.{by_side}
 use Rattle.bisync_report.specs.declared.ends.End.{End}
-use Rattle.bisync_run.specs.Counts.{counts, Stops}
+use Rattle.bisync_run.specs.Counts.{Counts, counts, Stops}
 use Rattle.bisync_run.specs.EndKinds.{is_unlocked}
 use Rattle.bisync_run.specs.HeldResyncs.{IsGoodEndOf}
 use Rattle.bisync_run.specs.Ordinary.{IsGoodOrdinaryEnd}
@@ -28,7 +28,7 @@ use Rattle.bisync_run.proofs.LockedFolders.{base_past}
 use Rattle.bisync_run.proofs.OrdinaryClosed.{base_kept, falls_resilient, rest_closed, rest_locked, run_base_closed, run_done_closed, way_before}
 use Rattle.bisync_run.proofs.OrdinaryEndsClosed.{good_before, ordinary_closed, run_answers_closed, run_tells_closed, tells_unlocked, unlocked_is_ordinary}
 use Rattle.bisync_run.proofs.OwnLocks.{own_closed as own_lock_closed}
-use Rattle.bisync_run.proofs.RunEnds.{after_good_was_ok}
+use Rattle.bisync_run.proofs.RunEnds.{after_good_was_ok, caused_closed}
 use Rattle.bisync_run.proofs.ToldGrounds.{unlocked_told, closed_told}
 use Rattle.bisync_run.proofs.CloseLaws.{fell_before}
 use Rattle.bisync_run.proofs.BuiltEnds.{unlocked_built, closed_built}
@@ -440,3 +440,9 @@ pub returns-clause-digest_late : goal.returns-clause-digest_late
 returns-clause-digest_late g c mode mode_is work =
     late_closed c.args.limits.now _ (g.W.Work.state c.args.work.now).folder (g.W.Work.state c.enter.new.work).folder (g.W.Work.state c.held-ended.new.work).folder (g.W.Work.state c.close.new.work).folder (c.in-Ok.ensures.others work) (c.close.ensures.closes work) c.args.opts.now
     (by_side (g.A.Remote.state c.args.one.now) (g.B.Remote.state c.args.two.now)) refl (record { rules = c.in-Ok.entered.rules; digest = c.in-Ok.entered.digest; are = c.in-Ok.ensures.rules (inl work) }) (c.held-ended.ensures.digest_late mode mode_is work)
+
+pub returns-clause-causes : goal.returns-clause-causes
+returns-clause-causes g c =
+    caused_closed (g.A.Remote.state c.args.one.now).faults (g.B.Remote.state c.args.two.now).faults (g.W.Work.state c.args.work.now).faults (g.S.Sink.state c.args.sink.now).faults (g.W.Work.state c.enter.new.work).faults
+    (g.A.Remote.state c.held-ended.new.one).faults (g.B.Remote.state c.held-ended.new.two).faults (g.W.Work.state c.held-ended.new.work).faults (g.S.Sink.state c.held-ended.new.sink).faults (g.W.Work.state c.close.new.work).faults
+    c.held-ended.result c.close.result (ap Counts.work (c.in-Ok.ensures.causes.good refl)) c.held-ended.ensures.well c.held-ended.ensures.causes c.close.ensures.end c.close.ensures.counts

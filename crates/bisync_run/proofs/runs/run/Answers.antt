@@ -21,6 +21,7 @@ use Rattle.bisync_run.proofs.EndLaws.{no_rise_since}
 use Rattle.bisync_run.proofs.FolderBases.{folder_base_told, folder_images}
 use Rattle.bisync_run.proofs.OwnLocks.{own_told as own_lock_told}
 use Rattle.bisync_run.proofs.OrdinaryTold.{ordinary_told, resilient_images, run_answers_told, run_images, run_tells_last}
+use Rattle.bisync_run.proofs.RunEnds.{caused_told}
 use Rattle.bisync_run.proofs.SafeRuns.{keeps_safe}
 use Rattle.bisync_run.proofs.ToldEnds.{after_good_told, good_told, told_same, answers_told, images}
 use Rattle.bisync_run.proofs.ToldGrounds.{last_told}
@@ -368,3 +369,9 @@ returns-clause-set_back g c none one two work left is =
     let now = by_side (g.A.Remote.state c.run_to_close-end.new.one) (g.B.Remote.state c.run_to_close-end.new.two) in
     set_back_left c.args.limits.now _ (g.W.Work.state c.args.work.now).folder start (g.W.Work.state c.run_to_close-end.new.work).folder now left
     (c.run_to_close-end.ensures.set_back none one two work) (c.run_to_close-end.ensures.settled work) is
+
+pub returns-clause-causes : goal.returns-clause-causes
+returns-clause-causes g c =
+    caused_told (g.A.Remote.state c.args.one.now).faults (g.B.Remote.state c.args.two.now).faults (g.W.Work.state c.args.work.now).faults (g.S.Sink.state c.args.sink.now).faults
+    (g.A.Remote.state c.run_to_close-end.new.one).faults (g.B.Remote.state c.run_to_close-end.new.two).faults (g.W.Work.state c.run_to_close-end.new.work).faults (g.S.Sink.state c.run_to_close-end.new.sink).faults (g.S.Sink.state c.tell_end.new.sink).faults
+    c.run_to_close-end.result c.tell_end.result c.run_to_close-end.ensures.causes c.tell_end.ensures.later c.tell_end.ensures.end c.tell_end.ensures.good c.tell_end.ensures.failed
