@@ -8,18 +8,19 @@ use Rattle.bisync_device.specs.WorkFolder.{WorkFolder}
 use Rattle.bisync_opts.specs.declared.options.Opts.{Opts}
 use Rattle.bisync_report.specs.Status.{falls_of}
 use Rattle.bisync_report.specs.declared.ends.End.{End}
+use Rattle.bisync_report.specs.declared.ends.End.TheVariants.{RemoteFault, Moved}
 use Rattle.bisync_work.specs.Locks.{ChangesLock}
 use Rattle.bisync_run.specs.Closing.{ClosesWith, Unlocks}
 use Rattle.bisync_run.specs.Counts.{Counts, Stops}
 use Rattle.bisync_run.specs.EndKinds.{is_good, is_after_good, is_sink_fault, may_have_changed, may_tell_plan, falls_at_close}
 use Rattle.bisync_run.specs.HeldResyncs.{end_of, IsGoodEndOf, TellsPlan}
-use Rattle.bisync_run.specs.KeptNames.{KeepsOwn}
+use Rattle.bisync_run.specs.KeptNames.{FellBefore, IsSideEnd, KeepsOwn}
 use Rattle.bisync_run.specs.ResyncRefusals.{AnswersResync, HasNoResyncRefusal}
 use Rattle.bisync_run.specs.ResyncRuns.{Matter, sides_in, TellsRun}
 use Rattle.bisync_run.specs.Resyncs.{resync_lines}
 use Rattle.bisync_run.specs.Sides.{Sides}
 use Rattle.bisync_run.specs.Untouched.{AreUntouched, Remotes}
-use Rattle.bisync_run.proofs.EndCases.{good_answers, false_true}
+use Rattle.bisync_run.proofs.EndCases.{good_answers, good_is_after_good, false_true}
 use Rattle.bisync_run.proofs.EndLaws.{stops_not_good, stops_not_after_good}
 
 pub on_ok : {T E P : Type 0} (r : Result T E) → IsOk r → OnOk r P → P
@@ -78,21 +79,28 @@ or_first a b is = ap (λ (x : Bool). x || b) is
 
 -- # What was told
 
-module _ (mode : Prefer) (opts : Opts) (limits : Limits) (tells : Bool) (f h : WorkFolder) (start now : Remotes) (m : Matter opts f start) (IsKept IsAccepted : Type 0) (before after : List ℕ) where
+-- no good end is a fault of a side
+pub not_side : (end : End) → is_good end ≡ true → IsSideEnd end → ⊥
+not_side (RemoteFault side) well is = false_true well
+not_side (Moved side path listed read) well is = false_true well
+not_side end well is = absurd is
+
+module _ (mode : Prefer) (opts : Opts) (limits : Limits) (tells : Bool) (f h : WorkFolder) (start now : Remotes) (m : Matter opts f start) (IsKept IsAccepted : Type 0) (HasFallen : End → Type 0) (before after : List ℕ) where
   told : after ≡ before ++ resync_lines mode (sides_in m) → after ≡ (before ++ resync_lines mode (sides_in m)) ++ []
   told lines = lines ∙ sym (append-nil (before ++ resync_lines mode (sides_in m)))
 
   pub tells_closed : (old new : Counts) (ended : Result End End) (closed : End) → IfOk ended (λ end. is_good end ≡ true) → IfErr ended (Stops old new) → ClosesWith ended closed
-      → (IsKept → IsTrue tells → KeepsOwn opts closed f h) → (IsAccepted → IsTrue tells → HasNoResyncRefusal mode limits f (sides_in m)) → TellsPlan mode (sides_in m) start now IsKept IsAccepted before after ended
+      → (IsKept → IsTrue tells → KeepsOwn opts closed f h) → (IsAccepted → IsTrue tells → HasNoResyncRefusal mode limits f (sides_in m))
+      → ((end : End) → closed ≡ end → HasFallen end → IsTrue tells → FellBefore opts closed f h) → TellsPlan mode opts.dry_run (sides_in m) start now IsKept IsAccepted HasFallen before after ended
       → TellsRun mode opts limits tells f start h now before [] after closed
-  tells_closed old new (Ok end) closed well stops (inl same) early ok (accepted, lines) =
-      inr (inr (ap may_tell_plan same ∙ or_true (may_have_changed end) (is_good end) well, (m, ok accepted, told lines)))
-  tells_closed old new (Ok end) closed well stops (inr stays) early ok (accepted, lines) = inr (inr (ap may_tell_plan stays, (m, ok accepted, told lines)))
-  tells_closed old new (Err end) closed well stops same early ok (inl failed) = inl (ap is_sink_fault same ∙ failed)
-  tells_closed old new (Err end) closed well stops same early ok (inr (inl (quiet, untouched, kept))) =
+  tells_closed old new (Ok end) closed well stops (inl same) early ok fell (accepted, lines) =
+      inr (inr (ap may_tell_plan same ∙ or_true (may_have_changed end) (is_good end) well, λ bad. false_true (sym bad ∙ ap is_after_good same ∙ good_is_after_good end well), λ t side. absurd (not_side end well (subst IsSideEnd same side)), (m, ok accepted, told lines)))
+  tells_closed old new (Ok end) closed well stops (inr stays) early ok fell (accepted, lines) = inr (inr (ap may_tell_plan stays, λ bad. false_true (sym bad ∙ ap is_after_good stays), λ t side. absurd (subst IsSideEnd stays side), (m, ok accepted, told lines)))
+  tells_closed old new (Err end) closed well stops same early ok fell (inl failed) = inl (ap is_sink_fault same ∙ failed)
+  tells_closed old new (Err end) closed well stops same early ok fell (inr (inl (quiet, untouched, kept))) =
       inr (inl (ap is_after_good same ∙ bool_cases (is_after_good end) (stops_not_after_good old new end stops), quiet ∙ sym (append-nil before), untouched, early kept))
-  tells_closed old new (Err end) closed well stops same early ok (inr (inr (may, accepted, lines))) =
-      inr (inr (ap may_tell_plan same ∙ or_first (may_have_changed end) (is_good end) may, (m, ok accepted, told lines)))
+  tells_closed old new (Err end) closed well stops same early ok fell (inr (inr (may, changing, fallen, accepted, lines))) =
+      inr (inr (ap may_tell_plan same ∙ or_first (may_have_changed end) (is_good end) may, λ bad. changing, fell end same fallen, (m, ok accepted, told lines)))
 
 -- a run that didn't get the lock told nothing
 pub tells_unlocked : (mode : Prefer) (opts : Opts) (limits : Limits) (tells : Bool) (f : WorkFolder) (start : Remotes) (g : WorkFolder) (before : List ℕ) (end : End) → (is_after_good end ≡ true → ⊥) → AreUntouched start start
@@ -105,5 +113,5 @@ pub tells_last : (mode : Prefer) (opts : Opts) (limits : Limits) (tells : Bool) 
 tells_last mode opts limits tells f start g now before mid after last end (inl failed) added = inl failed
 tells_last mode opts limits tells f start g now before mid after last end (inr (inl (bad, quiet, untouched, kept))) added =
     inr (inl (bad, added ∙ ap (λ (l : List ℕ). l ++ last) (quiet ∙ append-nil before), untouched, kept))
-tells_last mode opts limits tells f start g now before mid after last end (inr (inr (may, (m, accepted, lines)))) added =
-    inr (inr (may, (m, accepted, added ∙ ap (λ (l : List ℕ). l ++ last) (lines ∙ append-nil (before ++ resync_lines mode (sides_in m))))))
+tells_last mode opts limits tells f start g now before mid after last end (inr (inr (may, changing, fell, (m, accepted, lines)))) added =
+    inr (inr (may, changing, fell, (m, accepted, added ∙ ap (λ (l : List ℕ). l ++ last) (lines ∙ append-nil (before ++ resync_lines mode (sides_in m))))))

@@ -147,7 +147,7 @@ unlocked_told end last (inl same) un = same
 unlocked_told end last (inr lost) un = false_true (sym (ap is_unlocked lost.1) ∙ un)
 
 -- a good end comes of a run that got its lock
-good_is_held : (end : End) → is_good end ≡ true → is_before_lock end ≡ false
+pub good_is_held : (end : End) → is_good end ≡ true → is_before_lock end ≡ false
 good_is_held WorkFault good = false_true good
 good_is_held OutOfMemory good = false_true good
 good_is_held NoFilters good = false_true good
@@ -162,6 +162,10 @@ held_told end last (inr lost) later = good_is_held end lost.0
 pub before_told : (end last : End) → EndsWith end last → is_before_lock end ≡ true → is_before_lock last ≡ true
 before_told end last (inl same) before = ap is_before_lock same ∙ before
 before_told end last (inr lost) before = false_true (sym (good_is_held end lost.0) ∙ before)
+
+pub bad_same : (end last : End) → EndsWith end last → is_after_good last ≡ false → last ≡ end
+bad_same end last (inl same) bad = same
+bad_same end last (inr lost) bad = false_true (sym bad ∙ ap is_after_good lost.1)
 
 pub bad_told : (end last : End) → EndsWith end last → is_after_good last ≡ false → is_after_good end ≡ false
 bad_told end last (inl same) bad = ap is_after_good (sym same) ∙ bad

@@ -1,5 +1,5 @@
 -- What a fall would leave under the -err names, past the moves of a run.
-use Rattle.std.proofs.Common.{◌≡◌, ◌≤◌, ◌∙◌, ℕ, List, Option, Bool, true, false, refl, sym, ap, subst, inl, inr, Result, Ok, Err}
+use Rattle.std.proofs.Common.{◌≡◌, ◌≤◌, ◌∙◌, ℕ, List, Option, Bool, true, false, refl, sym, ap, subst, inl, inr, ⊎_elim, Result, Ok, Err}
 use Rattle.std.specs.Prelude.{◌⊎◌, IfErr, IfOk}
 use Rattle.bisync_device.specs.Faults.{Rose}
 use Rattle.bisync_device.specs.Remote.{KeepsTree, RemoteState}
@@ -16,9 +16,10 @@ use Rattle.bisync_work.specs.Renames.{after_renames, back_renames}
 use Rattle.bisync_work.proofs.RenameLaws.{over, renamed_over}
 use Rattle.bisync_report.specs.declared.ends.End.{End}
 use Rattle.bisync_run.specs.Closing.{Closes, ClosesWith, Unlocks}
-use Rattle.bisync_run.specs.EndKinds.{falls_at_close, is_after_good, is_good}
+use Rattle.bisync_run.specs.EndKinds.{falls_at_close, is_after_good, is_good, lets_fall}
 use Rattle.bisync_run.specs.FilterRules.{AreRulesOf}
-use Rattle.bisync_run.specs.LeftNames.{FallsAs, FellWith, StaysOrFell, StoresRules}
+use Rattle.bisync_run.specs.KeptNames.{FellBefore, IsSideEnd, StoresRules}
+use Rattle.bisync_run.specs.LeftNames.{FallsAs, FellWith, StaysOrFell}
 use Rattle.bisync_run.specs.ResyncWriting.{AreRewritten, stored}
 use Rattle.bisync_run.proofs.CloseLaws.{fell_before, fell_past}
 use Rattle.bisync_run.proofs.ClosedEnds.{changes_closed}
@@ -102,7 +103,7 @@ fallen_falls_as f g is = record {
 -- of a resync that failed and was closed, the listings fell or nothing but the lock changed
 pub resync_fell : (opts : Opts) (rules : List Rule) (digest : Option (List ℕ)) (IsKept : Type 0) (ended : Result End End) (end : End) (f f2 g h : WorkFolder) → AreRulesOf opts.filters f.filters rules digest
     → IfOk ended (λ e. is_good e ≡ true) → ClosesWith ended end → is_after_good end ≡ false → ChangesLock f f2 → Closes g h → IfErr ended (λ e. ((g ≡ f2) × IsKept) ⊎ FellWith digest f2 g)
-    → (falls_at_close opts.resilient opts.dry_run ended ≡ false → Unlocks g h) → (falls_at_close opts.resilient opts.dry_run ended ≡ true → IsFallen g h) → StaysOrFell opts f h IsKept
+    → (falls_at_close opts.resilient opts.dry_run ended ≡ false → Unlocks g h) → (falls_at_close opts.resilient opts.dry_run ended ≡ true → IsFallen g h) → StaysOrFell opts end f h IsKept
 resync_fell opts rules digest IsKept (Ok good) end f f2 g h are well (inl same) bad lock closes left kept fell = false_true (sym bad ∙ ap is_after_good same ∙ good_is_after_good good well)
 resync_fell opts rules digest IsKept (Ok good) end f f2 g h are well (inr stays) bad lock closes left kept fell = false_true (sym bad ∙ ap is_after_good stays)
 resync_fell opts rules digest IsKept (Err e) end f f2 g h are well same bad lock closes left kept fell = by_fall (falls_at_close opts.resilient opts.dry_run (Err e)) refl
@@ -117,17 +118,36 @@ resync_fell opts rules digest IsKept (Err e) end f f2 g h are well same bad lock
     falls_so (inl stays) = falls_as_same f2 g stays.0
     falls_so (inr fallen) = fallen_falls_as f2 g fallen.0
 
-    stores : ((g ≡ f2) × IsKept) ⊎ FellWith digest f2 g → StoresRules opts f h
-    stores (inl stays) = inl (closed ∙ ap (λ (w : WorkFolder). w.filters_md5) stays.0 ∙ locked)
-    stores (inr fallen) = inr (rules, digest, are, closed ∙ fallen.1 ∙ ap (stored digest) locked)
+    digest_same : g ≡ f2 → h.filters_md5 ≡ f.filters_md5
+    digest_same stays = closed ∙ ap (λ (w : WorkFolder). w.filters_md5) stays ∙ locked
 
-    unlocked : ((g ≡ f2) × IsKept) ⊎ FellWith digest f2 g → Unlocks g h → StaysOrFell opts f h IsKept
-    unlocked (inl stays) only = inl (changes_closed f f2 g h lock stays.0 only, stays.1)
-    unlocked (inr fallen) only = inr (fell_before f f2 f2 h lock (falls_as_same f2 f2 refl) (fell_past f2 g h fallen.0 only), stores left)
+    stores : FellWith digest f2 g → StoresRules opts f h
+    stores fallen = (rules, digest, are, closed ∙ fallen.1 ∙ ap (stored digest) locked)
 
-    by_fall : (b : Bool) → falls_at_close opts.resilient opts.dry_run (Err e) ≡ b → StaysOrFell opts f h IsKept
-    by_fall true falls = inr (fell_before f f2 g h lock (falls_so left) (fell falls), stores left)
+    unlocked : ((g ≡ f2) × IsKept) ⊎ FellWith digest f2 g → Unlocks g h → StaysOrFell opts end f h IsKept
+    unlocked (inl stays) only = inl (stays.1, inl (changes_closed f f2 g h lock stays.0 only))
+    unlocked (inr fallen) only = inr (fell_before f f2 f2 h lock (falls_as_same f2 f2 refl) (fell_past f2 g h fallen.0 only), stores fallen)
+
+    fell_now : lets_fall opts.resilient opts.dry_run end ≡ true → ((g ≡ f2) × IsKept) ⊎ FellWith digest f2 g → IsFallen f h → StaysOrFell opts end f h IsKept
+    fell_now falls (inl stays) is = inl (stays.1, inr (falls, is, digest_same stays.0))
+    fell_now falls (inr fallen) is = inr (is, stores fallen)
+
+    by_fall : (b : Bool) → falls_at_close opts.resilient opts.dry_run (Err e) ≡ b → StaysOrFell opts end f h IsKept
+    by_fall true falls = fell_now (ap (lets_fall opts.resilient opts.dry_run) same ∙ falls) left (fell_before f f2 g h lock (falls_so left) (fell falls))
     by_fall false stays = unlocked left (kept stays)
+
+-- and when its last line is told
+pub resync_fell_told : {IsKept : Type 0} (opts : Opts) (end last : End) (f h : WorkFolder) → last ≡ end → StaysOrFell opts end f h IsKept → StaysOrFell opts last f h IsKept
+resync_fell_told opts end last f h same fell = ⊎_elim (λ early. inl (early.0, ⊎_elim inl (λ fallen. inr (ap (lets_fall opts.resilient opts.dry_run) same ∙ fallen.0, fallen.1, fallen.2)) early.1)) inr fell
+
+-- what fell before the steps still has, when the run is closed
+pub fell_late : (opts : Opts) (rules : List Rule) (digest : Option (List ℕ)) (end closed : End) (f f2 g h : WorkFolder) → AreRulesOf opts.filters f.filters rules digest → ChangesLock f f2 → Closes g h
+    → closed ≡ end → (IsSideEnd end → FellWith digest f2 g) → ((k : WorkFolder) → IsFallen k g → IsFallen k h) → FellBefore opts closed f h
+fell_late opts rules digest end closed f f2 g h are lock closes same fell stays side =
+    let was = fell (subst IsSideEnd same side) in (
+      fell_before f f2 f2 h lock (falls_as_same f2 f2 refl) (stays f2 was.0),
+      (rules, digest, are, ap (λ (w : WorkFolder). w.filters_md5) closes.rest ∙ was.1 ∙ ap (λ (w : WorkFolder). stored digest w.filters_md5) lock.rest),
+    )
 
 -- # From one part of a run to the next
 

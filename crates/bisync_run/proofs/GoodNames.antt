@@ -1,5 +1,5 @@
 -- Names of a base that have listings, or nothing, still do after a run.
-use Rattle.std.proofs.Common.{◌≡◌, ◌++◌, ◌<◌, ◌^◌, [], ◌∷◌, refl, sym, subst, inl, inr, ℕ, List, Option, Some, None}
+use Rattle.std.proofs.Common.{◌≡◌, ◌++◌, ◌<◌, ◌^◌, [], ◌∷◌, refl, sym, ◌∙◌, ap, subst, inl, inr, ℕ, List, Option, Some, None}
 use Rattle.std.specs.Prelude.{⊤}
 use Rattle.bisync_tree.specs.declared.entries.Compare.{Compare}
 use Rattle.bisync_tree.specs.declared.options.Limits.{Limits}
@@ -13,7 +13,7 @@ use Rattle.bisync_work.specs.BadNames.{IsFirstBad, IsGood}
 use Rattle.bisync_work.specs.Base.{Base}
 use Rattle.bisync_work.specs.Locks.{ChangesLock}
 use Rattle.bisync_work.specs.KeptTexts.{ChangesOnly}
-use Rattle.bisync_work.specs.Moves.{IsReady, SameListings, moved_over}
+use Rattle.bisync_work.specs.Moves.{IsFallen, IsReady, SameListings, moved_over}
 use Rattle.bisync_work.specs.NewListings.{but_new}
 use Rattle.bisync_work.specs.Renames.{AreBegun, Renames, after_renames, back_renames, fall_renames, switch_renames}
 use Rattle.bisync_work.proofs.BaseLaws.{same_bad}
@@ -66,7 +66,7 @@ good_over limit (Kept bytes) below a b = a
 good_over limit (Loose bytes) below a b = a
 
 -- what holds after each of these renames where it holds before it
-abbrev Each : (WorkFolder → Type 0) → Renames → Type 0
+abbrev pub Each : (WorkFolder → Type 0) → Renames → Type 0
 Each P [] = ⊤
 Each P (r ∷ rs) = ((f : WorkFolder) → P f → P (over r.0 r.1 f)) × Each P rs
 
@@ -78,7 +78,7 @@ after_each : (P : WorkFolder → Type 0) (done : Renames) → Each P done → (f
 after_each P [] each f is = is
 after_each P (r ∷ rs) each f is = after_each P rs each.1 (renamed r.0 r.1 f) (subst P (sym (renamed_over r.0 r.1 f)) (each.0 f is))
 
-begun_keeps : (P : WorkFolder → Type 0) (renames : Renames) → Each P renames → (f g : WorkFolder) → AreBegun renames f g → P f → P g
+pub begun_keeps : (P : WorkFolder → Type 0) (renames : Renames) → Each P renames → (f g : WorkFolder) → AreBegun renames f g → P f → P g
 begun_keeps P renames each f g begun is = subst P (sym begun.folder) (after_each P begun.done (first_of P begun.done begun.left (subst (Each P) begun.all each)) f is)
 
 module _ (limit : ℕ) where
@@ -130,6 +130,24 @@ module _ (limit : ℕ) where
 
   each_switched : Each AreGoodWithNew switch_renames
   each_switched = (one_switched, (two_switched, tt))
+
+-- # A fall that was done before
+
+module _ (k : WorkFolder) where
+  again_one_old : (f : WorkFolder) → IsFallen k f → IsFallen k (over OneOld OneErr f)
+  again_one_old f x = record { one = x.one; two = x.two; one_old = refl; two_old = x.two_old; one_err = ap (λ (h : Held). moved_over h f.one_err) x.one_old ∙ x.one_err; two_err = x.two_err }
+
+  again_one : (f : WorkFolder) → IsFallen k f → IsFallen k (over One OneErr f)
+  again_one f x = record { one = refl; two = x.two; one_old = x.one_old; two_old = x.two_old; one_err = ap (λ (h : Held). moved_over h f.one_err) x.one ∙ x.one_err; two_err = x.two_err }
+
+  again_two_old : (f : WorkFolder) → IsFallen k f → IsFallen k (over TwoOld TwoErr f)
+  again_two_old f x = record { one = x.one; two = x.two; one_old = x.one_old; two_old = refl; one_err = x.one_err; two_err = ap (λ (h : Held). moved_over h f.two_err) x.two_old ∙ x.two_err }
+
+  again_two : (f : WorkFolder) → IsFallen k f → IsFallen k (over Two TwoErr f)
+  again_two f x = record { one = x.one; two = refl; one_old = x.one_old; two_old = x.two_old; one_err = x.one_err; two_err = ap (λ (h : Held). moved_over h f.two_err) x.two ∙ x.two_err }
+
+  pub fallen_again : (f g : WorkFolder) → AreBegun fall_renames f g → IsFallen k f → IsFallen k g
+  fallen_again f g begun is = begun_keeps (IsFallen k) fall_renames (again_one_old, (again_one, (again_two_old, (again_two, tt)))) f g begun is
 
 -- # The parts of a run
 

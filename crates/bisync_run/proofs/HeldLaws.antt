@@ -120,7 +120,8 @@ module _ (mode : Prefer) (limits : Limits) (compare : Compare) (rules : List Rul
 
   pub trees_held : HasNoResyncRefusal mode limits f s → (h : WorkFolder) (now : Remotes) → IsPartDone prepared.plan.steps.items (by_side a2 b2) now → LeavesTrees mode limits f s (by_side a b) h now
   trees_held none h now part =
-      inr (none, part_mixed mode compare rules a b prepared plan now (part_since (by_side a b) (by_side a2 b2) looked windows prepared.plan.steps.items now part))
+      let since = part_since (by_side a b) (by_side a2 b2) looked windows prepared.plan.steps.items now part in
+      inr (none, part_mixed mode compare rules a b prepared plan now since, subst (λ (l : List Step). IsPartDone l (by_side a b) now) plan.steps since)
 
   pub mix_held : (now : Remotes) → IsPartDone prepared.plan.steps.items (by_side a2 b2) now → LeavesMix mode s (by_side a b) now
   mix_held now part = inr (part_mixed mode compare rules a b prepared plan now (part_since (by_side a b) (by_side a2 b2) looked windows prepared.plan.steps.items now part))

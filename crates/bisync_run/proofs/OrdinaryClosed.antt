@@ -64,8 +64,8 @@ module _ (opts : Opts) (limits : Limits) (s : Sides) (digest : Option (List ℕ)
 
   -- # The trees
 
-  pub way_before : (f g : WorkFolder) → ChangesLock f g → AreOnTheWay opts limits g s digest now → AreOnTheWay opts limits f s digest now
-  way_before f g changes x = record { changing = x.changing; course = course_before opts limits f g changes s digest x.course; between = x.between }
+  pub way_before : {start : Remotes} (f g : WorkFolder) → ChangesLock f g → AreOnTheWay opts limits g s digest start now → AreOnTheWay opts limits f s digest start now
+  way_before f g changes x = record { changing = x.changing; course = course_before opts limits f g changes s digest x.course; part = x.part; between = x.between }
 
   -- # A run that was done
 

@@ -7,7 +7,7 @@ use Rattle.bisync_tree.specs.declared.options.Limits.{Limits}
 use Rattle.bisync_device.specs.WorkFolder.{WorkFolder}
 use Rattle.bisync_opts.specs.declared.options.Opts.{Opts}
 use Rattle.bisync_report.specs.declared.ends.End.{End}
-use Rattle.bisync_report.specs.declared.ends.End.TheVariants.{Done, DryRun, InSync, WorkFault, NoFilters, BadRule, Locked, RemoteFault, Moved, LockLeft, OutOfMemory}
+use Rattle.bisync_report.specs.declared.ends.End.TheVariants.{Done, DryRun, InSync, WorkFault, NoFilters, BadRule, Locked, LockLeft, OutOfMemory}
 use Rattle.bisync_work.specs.declared.bases.Pair.TheVariants.{Old}
 use Rattle.bisync_work.specs.Base.{HasNoBase}
 use Rattle.bisync_work.specs.Locks.{ChangesLock}
@@ -24,8 +24,9 @@ use Rattle.bisync_run.specs.ResyncEnds.{IsUnlockedEnd}
 use Rattle.bisync_run.specs.ResyncRuns.{Matter, sides_in}
 use Rattle.bisync_run.specs.Sides.{Sides}
 use Rattle.bisync_run.specs.Untouched.{Remotes, AreUntouched}
+use Rattle.bisync_run.proofs.ClosedEnds.{not_side}
 use Rattle.bisync_run.proofs.CoursesBefore.{course_before}
-use Rattle.bisync_run.proofs.EndCases.{false_true}
+use Rattle.bisync_run.proofs.EndCases.{false_true, good_is_after_good}
 use Rattle.bisync_run.proofs.EndLaws.{stops_not_after_good}
 use Rattle.bisync_run.proofs.LockedFolders.{base_past}
 
@@ -70,12 +71,6 @@ or_true false b is = is
 or_first : (a b : Bool) → a ≡ true → (a || b) ≡ true
 or_first a b is = ap (λ (x : Bool). x || b) is
 
--- no good end is a fault of a side
-not_side : (end : End) → is_good end ≡ true → IsSideEnd end → ⊥
-not_side (RemoteFault side) well is = false_true well
-not_side (Moved side path listed read) well is = false_true well
-not_side end well is = absurd is
-
 module _ (opts : Opts) (limits : Limits) (f g mid h : WorkFolder) (changes : ChangesLock f g) (closes : Closes mid h) (start now : Remotes) (m : Matter opts f start) (before after : List ℕ) where
   abbrev Told : End → Type 0
   Told end = TellsOrdinaryRun opts limits f start h now before [] after end
@@ -96,21 +91,21 @@ module _ (opts : Opts) (limits : Limits) (f g mid h : WorkFolder) (changes : Cha
 
   -- # The lines
 
-  with_lines : (closed : End) (lines : List ℕ) → may_tell_plan closed ≡ true → StandsSetBack limits closed f h → AreCourseLines opts limits g (sides_in m) m.digest lines → after ≡ before ++ lines → Told closed
-  with_lines closed lines may stands are is =
-      inr (inr (may, stands, (m, lines, lines_before opts limits f g changes (sides_in m) m.digest lines are, is ∙ sym (append-nil (before ++ lines)))))
+  with_lines : (closed : End) (lines : List ℕ) → may_tell_plan closed ≡ true → (is_after_good closed ≡ false → opts.dry_run ≡ false) → StandsSetBack limits closed f h → AreCourseLines opts limits g (sides_in m) m.digest lines → after ≡ before ++ lines → Told closed
+  with_lines closed lines may changing stands are is =
+      inr (inr (may, changing, stands, (m, lines, lines_before opts limits f g changes (sides_in m) m.digest lines are, is ∙ sym (append-nil (before ++ lines)))))
 
   pub run_tells_closed : (old new : Counts) (ended : Result End End) (closed : End) → IfOk ended (λ end. is_good end ≡ true) → IfErr ended (Stops old new) → ClosesWith ended closed
       → (mid ≡ g → KeepsButFallen (lets_fall opts.resilient opts.dry_run closed) f h) → TellsCourse opts limits g (sides_in m) m.digest start mid now before after ended → Told closed
   run_tells_closed old new (Ok end) closed well stops is early (inl (only, quiet, untouched, same)) = inr (inl (λ good. only, quiet ∙ sym (append-nil before), untouched, early same))
   run_tells_closed old new (Ok end) closed well stops (inl same) early (inr (lines, are, told)) =
-      with_lines closed lines (ap may_tell_plan same ∙ or_true (may_have_changed end) (is_good end) well) (good_stands end closed well (inl same)) are told
-  run_tells_closed old new (Ok end) closed well stops (inr left) early (inr (lines, are, told)) = with_lines closed lines (ap may_tell_plan left) (good_stands end closed well (inr left)) are told
+      with_lines closed lines (ap may_tell_plan same ∙ or_true (may_have_changed end) (is_good end) well) (λ bad. false_true (sym bad ∙ ap is_after_good same ∙ good_is_after_good end well)) (good_stands end closed well (inl same)) are told
+  run_tells_closed old new (Ok end) closed well stops (inr left) early (inr (lines, are, told)) = with_lines closed lines (ap may_tell_plan left) (λ bad. false_true (sym bad ∙ ap is_after_good left)) (good_stands end closed well (inr left)) are told
   run_tells_closed old new (Err end) closed well stops same early (inl failed) = inl (ap is_sink_fault same ∙ failed)
   run_tells_closed old new (Err end) closed well stops same early (inr (inl (quiet, untouched, kept))) =
       inr (inl (λ good. absurd (stops_not_after_good old new end stops (ap is_after_good (sym same) ∙ good)), quiet ∙ sym (append-nil before), untouched, early kept))
-  run_tells_closed old new (Err end) closed well stops same early (inr (inr (may, stands, (lines, are, told)))) =
-      with_lines closed lines (ap may_tell_plan same ∙ or_first (may_have_changed end) (is_good end) may) (stands_closed end closed same stands) are told
+  run_tells_closed old new (Err end) closed well stops same early (inr (inr (may, changing, stands, (lines, are, told)))) =
+      with_lines closed lines (ap may_tell_plan same ∙ or_first (may_have_changed end) (is_good end) may) (λ bad. changing) (stands_closed end closed same stands) are told
 
 -- a run that didn't get the lock told nothing
 pub tells_unlocked : (opts : Opts) (limits : Limits) (f : WorkFolder) (start : Remotes) (g : WorkFolder) (before : List ℕ) (end : End) → (is_after_good end ≡ true → ⊥) → AreUntouched start start

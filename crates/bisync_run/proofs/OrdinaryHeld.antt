@@ -73,6 +73,7 @@ module _ (opts : Opts) (limits : Limits) (rules : List Rule) (digest : Option (L
     trees_held changing h now part = inr (record {
       changing = changing;
       course = look.course;
+      part = subst (λ (l : List Step). IsPartDone l (by_side a b) now) look.steps (part_since (by_side a b) (by_side a2 b2) looked windows made.plan.steps.items now part);
       between = part_between opts opts.compare rules a b look.course.base look.course.names (prepared_of stamp made) look.course.are look.steps look.finals now
           (part_since (by_side a b) (by_side a2 b2) looked windows made.plan.steps.items now part);
     })

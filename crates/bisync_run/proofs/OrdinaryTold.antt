@@ -37,8 +37,8 @@ pub run_tells_last : (opts : Opts) (limits : Limits) (f : WorkFolder) (start : R
 run_tells_last opts limits f start g now before mid after last end (inl failed) added = inl failed
 run_tells_last opts limits f start g now before mid after last end (inr (inl (only, quiet, untouched, kept))) added =
     inr (inl (only, added ∙ ap (λ (l : List ℕ). l ++ last) (quiet ∙ append-nil before), untouched, kept))
-run_tells_last opts limits f start g now before mid after last end (inr (inr (may, stands, (m, lines, are, told)))) added =
-    inr (inr (may, stands, (m, lines, are, added ∙ ap (λ (l : List ℕ). l ++ last) (told ∙ append-nil (before ++ lines)))))
+run_tells_last opts limits f start g now before mid after last end (inr (inr (may, changing, stands, (m, lines, are, told)))) added =
+    inr (inr (may, changing, stands, (m, lines, are, added ∙ ap (λ (l : List ℕ). l ++ last) (told ∙ append-nil (before ++ lines)))))
 
 -- # An image of the folder
 

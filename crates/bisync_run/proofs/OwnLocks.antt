@@ -1,5 +1,5 @@
 -- The lock of a run, from one of its parts to the next.
-use Rattle.std.proofs.Common.{◌≡◌, ◌∙◌, ℕ, ℤ, Bool, true, IsTrue, List, Option, Some, FitsSigned, to_z, of_z, refl, sym, ap, subst, inl, inr}
+use Rattle.std.proofs.Common.{◌≡◌, ◌∙◌, ℕ, ℤ, Bool, IsTrue, List, Option, Some, FitsSigned, to_z, of_z, refl, sym, ap, subst, inl, inr}
 use Rattle.std.specs.Prelude.{◌⊎◌}
 use Rattle.std.proofs.lemmas.Int.{to_z-of_z}
 use Rattle.std.specs.Int.{w64}
@@ -9,10 +9,12 @@ use Rattle.bisync_opts.specs.declared.options.Opts.{Opts}
 use Rattle.bisync_work.specs.Locks.{MakesLock, ReplacesLock}
 use Rattle.bisync_work.specs.LockTexts.{expiry_of, lock_text}
 use Rattle.bisync_report.specs.declared.ends.End.{End}
-use Rattle.bisync_run.specs.EndKinds.{is_before_lock}
+use Rattle.bisync_run.specs.Closing.{EndsWith}
 use Rattle.bisync_run.specs.Entering.{AtMoment, HasSomeRules}
 use Rattle.bisync_run.specs.FilterRules.{AreRulesOf}
 use Rattle.bisync_run.specs.LeftNames.{IsOwnLock, KeepsOwnLock, LeavesOwnLock}
+use Rattle.bisync_run.proofs.ClosedKinds.{good_is_held}
+use Rattle.bisync_run.proofs.EndCases.{false_true}
 
 -- the text as the program makes it
 text_of : (max_lock : Option ℤ) (lock now : ℤ) → FitsSigned w64 lock → FitsSigned w64 now → max_lock ≡ Some lock
@@ -62,7 +64,8 @@ module _ (opts : Opts) (told : Bool) (moment : ℤ) (IsKept : Type 0) where
   own_closed next end f f2 g h rules same own (inr again) closes = closed end f g h rules (later opts.max_lock told moment next g.lock same again) closes
 
   -- a lock is left only where it isn't the run's own
-  pub own_told : (end last : End) (f g : WorkFolder) → (is_before_lock end ≡ true → is_before_lock last ≡ true) → LeavesOwnLock opts told moment end f g IsKept → LeavesOwnLock opts told moment last f g IsKept
-  own_told end last f g before (inl gone) = inl gone
-  own_told end last f g before (inr (inl own)) = inr (inl own)
-  own_told end last f g before (inr (inr left)) = inr (inr (before left.0, left.1, left.2, left.3))
+  pub own_told : (end last : End) (f g : WorkFolder) → EndsWith end last → LeavesOwnLock opts told moment end f g IsKept → LeavesOwnLock opts told moment last f g IsKept
+  own_told end last f g (inl same) own = subst (λ (e : End). LeavesOwnLock opts told moment e f g IsKept) (sym same) own
+  own_told end last f g (inr lost) (inl gone) = inl gone
+  own_told end last f g (inr lost) (inr (inl own)) = inr (inl own)
+  own_told end last f g (inr lost) (inr (inr left)) = false_true (sym (good_is_held end lost.0) ∙ left.0)

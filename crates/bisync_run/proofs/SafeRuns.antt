@@ -100,10 +100,10 @@ module _ (opts : Opts) (s : Sides) where
       → IsSafe (policy_in opts s) (entries_in (Some base)) (start_of s) p bytes → IsSafe (policy_in opts s) (entries_in (Some base)) trees p bytes
   kept_between base names are named trees between p bytes safe = safe_kept (run_from base) names (names_ok base names are) named trees between p bytes safe
 
-  kept_on_the_way : (limits : Limits) → limits.listing < 2 ^ 64 → (f : WorkFolder) (digest : Option (List ℕ)) (now : Remotes) → AreOnTheWay opts limits f s digest now
+  kept_on_the_way : (limits : Limits) → limits.listing < 2 ^ 64 → (f : WorkFolder) (digest : Option (List ℕ)) (start now : Remotes) → AreOnTheWay opts limits f s digest start now
       → opts.conflict.loser ≢ Delete → (before : Option Base) → IsBase limits.listing f before → (p : PathBytes) (bytes : List ℕ)
       → IsSafe (policy_in opts s) (entries_in before) (start_of s) p bytes → IsSafe (policy_in opts s) (entries_in before) (trees_in now) p bytes
-  kept_on_the_way limits small f digest now way named before was p bytes safe =
+  kept_on_the_way limits small f digest start now way named before was p bytes safe =
       let course = way.course in
       let same : before ≡ Some course.base = base_is_one limits.listing f small before (Some course.base) was (course.pair, course.starts.is) in
       subst (λ (b : Option Base). IsSafe (policy_in opts s) (entries_in b) (trees_in now) p bytes) (sym same)
@@ -140,7 +140,7 @@ module _ (opts : Opts) (limits : Limits) (small : limits.listing < 2 ^ 64) (f : 
   trees_left told moment end h leaves named before was p bytes safe =
       ⊎_elim
       (λ early. subst (λ (t : Trees). IsSafe (policy_in opts (sides_in m)) (entries_in before) t p bytes) (sym (untouched_trees start now early.0)) safe)
-      (λ some. kept_on_the_way opts (sides_in m) limits small f some.1.0.digest now (with_rules (λ t. AreOnTheWay opts limits f t some.1.0.digest now) some.1.0 some.1.1) named before was p bytes safe)
+      (λ some. kept_on_the_way opts (sides_in m) limits small f some.1.0.digest start now (with_rules (λ t. AreOnTheWay opts limits f t some.1.0.digest start now) some.1.0 some.1.1) named before was p bytes safe)
       leaves
 
 pub keeps_safe : (opts : Opts) (limits : Limits) → limits.listing < 2 ^ 64 → (f : WorkFolder) (start : Remotes) (told : Bool) (moment : ℤ) (end : End) (h g : WorkFolder) (now : Remotes)

@@ -22,9 +22,9 @@ IsGoodEndOf dry_run mode s end = ⊥
 
 -- A course that ended well was accepted, and told the lines of the plan. Any other told nothing, touched no side and kept what
 -- is kept; or was accepted and told them, where it may have made changes. Of a sink that failed nothing is said here.
-abbrev pub TellsPlan : Prefer → Sides → Remotes → Remotes → Type 0 → Type 0 → List ℕ → List ℕ → Result End End → Type 0
-TellsPlan mode s start now IsKept IsAccepted before after (Ok end) = IsAccepted × (after ≡ before ++ resync_lines mode s)
-TellsPlan mode s start now IsKept IsAccepted before after (Err end) =
+abbrev pub TellsPlan : Prefer → Bool → Sides → Remotes → Remotes → Type 0 → Type 0 → (End → Type 0) → List ℕ → List ℕ → Result End End → Type 0
+TellsPlan mode dry_run s start now IsKept IsAccepted HasFallen before after (Ok end) = IsAccepted × (after ≡ before ++ resync_lines mode s)
+TellsPlan mode dry_run s start now IsKept IsAccepted HasFallen before after (Err end) =
     (is_sink_fault end ≡ true)
     ⊎ (((after ≡ before) × AreUntouched start now × IsKept)
-    ⊎ ((may_have_changed end ≡ true) × IsAccepted × (after ≡ before ++ resync_lines mode s)))
+    ⊎ ((may_have_changed end ≡ true) × (dry_run ≡ false) × HasFallen end × IsAccepted × (after ≡ before ++ resync_lines mode s)))

@@ -5,15 +5,15 @@ use Rattle.bisync_tree.specs.declared.options.Limits.{Limits}
 use Rattle.bisync_device.specs.WorkFolder.{Held, Absent, Kept, WorkFolder, IsSettled, IsImage}
 use Rattle.bisync_work.specs.declared.bases.Pair.TheVariants.{Old}
 use Rattle.bisync_work.specs.Base.{Base, HasBaseIn, IsBase, HasNoBase}
-use Rattle.bisync_filter.specs.declared.rule_lists.Rule.{Rule}
 use Rattle.bisync_opts.specs.declared.options.Opts.{Opts}
 use Rattle.bisync_work.specs.Locks.{ChangesLock, MakesLock}
 use Rattle.bisync_work.specs.LockTexts.{expiry_of, lock_text}
 use Rattle.bisync_work.specs.Moves.{IsFallen, moved_over}
 use Rattle.bisync_report.specs.declared.ends.End.{End}
-use Rattle.bisync_run.specs.EndKinds.{is_before_lock}
+use Rattle.bisync_report.specs.declared.ends.End.TheVariants.{WorkFault}
+use Rattle.bisync_run.specs.EndKinds.{is_before_lock, lets_fall}
 use Rattle.bisync_run.specs.Entering.{AtMoment, HasSomeRules}
-use Rattle.bisync_run.specs.FilterRules.{AreRulesOf}
+use Rattle.bisync_run.specs.KeptNames.{StoresRules}
 use Rattle.bisync_run.specs.FolderBases.{TakesNext, compared}
 use Rattle.bisync_run.specs.ResyncRuns.{Matter}
 use Rattle.bisync_run.specs.ResyncWriting.{stored}
@@ -49,9 +49,9 @@ abbrev pub IsOwnLock : Option ℤ → Bool → ℤ → Held → Type 0
 IsOwnLock max_lock told moment held = AtMoment told moment (λ now. held ≡ Kept (lock_text (expiry_of now max_lock)))
 
 -- nothing changed, or the rules were read and the calls on the lock failed, at that moment
-abbrev pub MayTakeLock : Opts → Bool → ℤ → WorkFolder → WorkFolder → Type 0
-MayTakeLock opts told moment f g =
-    (g ≡ f) ⊎ (HasSomeRules opts.filters f × AtMoment told moment (λ now. MakesLock (lock_text (expiry_of now opts.max_lock)) f.lock g.lock))
+abbrev pub MayTakeLock : Opts → Bool → ℤ → End → WorkFolder → WorkFolder → Type 0
+MayTakeLock opts told moment end f g =
+    (g ≡ f) ⊎ ((end ≡ WorkFault) × HasSomeRules opts.filters f × AtMoment told moment (λ now. MakesLock (lock_text (expiry_of now opts.max_lock)) f.lock g.lock))
 
 -- None is there; or the run's own, once its rules were read; or, of a run that didn't get one, what the calls on it that failed
 -- left. Of the latter no other name is another, and what is kept is kept.
@@ -59,20 +59,16 @@ abbrev pub LeavesOwnLock : Opts → Bool → ℤ → End → WorkFolder → Work
 LeavesOwnLock opts told moment end f g IsKept =
     (g.lock ≡ Absent)
     ⊎ ((HasSomeRules opts.filters f × IsOwnLock opts.max_lock told moment g.lock)
-    ⊎ ((is_before_lock end ≡ true) × ChangesLock f g × IsKept × MayTakeLock opts told moment f g))
+    ⊎ ((is_before_lock end ≡ true) × ChangesLock f g × IsKept × MayTakeLock opts told moment end f g))
 
 -- # The fall of a resync
 
--- the stored digest is as before, or that of the filters file
-abbrev pub StoresRules : Opts → WorkFolder → WorkFolder → Type 0
-StoresRules opts f g =
-    (g.filters_md5 ≡ f.filters_md5)
-    ⊎ ((rules : List Rule) × (digest : Option (List ℕ)) × AreRulesOf opts.filters f.filters rules digest × (g.filters_md5 ≡ stored digest f.filters_md5))
-
--- No name but the lock is another, and what is kept is kept; or the listings fell, and the stored digest is as before or that of
--- the filters file.
-abbrev pub StaysOrFell : Opts → WorkFolder → WorkFolder → Type 0 → Type 0
-StaysOrFell opts f g IsKept = (ChangesLock f g × IsKept) ⊎ (IsFallen f g × StoresRules opts f g)
+-- What is kept is kept, and no name but the lock is another, or the listings fell, where they may, and the stored digest is as
+-- before; or the listings fell, and the digest of the filters file is stored.
+abbrev pub StaysOrFell : Opts → End → WorkFolder → WorkFolder → Type 0 → Type 0
+StaysOrFell opts end f g IsKept =
+    (IsKept × (ChangesLock f g ⊎ ((lets_fall opts.resilient opts.dry_run end ≡ true) × IsFallen f g × (g.filters_md5 ≡ f.filters_md5))))
+    ⊎ (IsFallen f g × StoresRules opts f g)
 
 -- # Inside this crate
 

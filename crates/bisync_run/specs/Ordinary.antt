@@ -5,6 +5,7 @@ use Rattle.bisync_tree.specs.declared.sides.Side.TheVariants.{One, Two}
 use Rattle.bisync_tree.specs.declared.options.Limits.{Limits}
 use Rattle.bisync_model.specs.Trees.{SameTrees}
 use Rattle.bisync_model.specs.Between.{IsBetween}
+use Rattle.bisync_model.specs.Plan.{plan}
 use Rattle.bisync_device.specs.WorkFolder.{Absent, WorkFolder}
 use Rattle.bisync_opts.specs.declared.options.CheckSync.TheVariants.{Only}
 use Rattle.bisync_opts.specs.declared.options.Opts.{Opts}
@@ -13,11 +14,12 @@ use Rattle.bisync_work.specs.declared.bases.Pair.TheVariants.{Current}
 use Rattle.bisync_work.specs.Base.{Base, ArePair, HasBaseIn, IsBase, HasNoBase}
 use Rattle.bisync_report.specs.declared.ends.End.{End}
 use Rattle.bisync_report.specs.declared.ends.End.TheVariants.{Done, DryRun, InSync}
-use Rattle.bisync_run.specs.Courses.{Course, course_end, course_changes, course_lines, known_in}
+use Rattle.bisync_run.specs.Courses.{Course, course_end, course_changes, course_lines, known_in, paths_through}
 use Rattle.bisync_run.specs.EndKinds.{is_sink_fault, may_have_changed}
 use Rattle.bisync_run.specs.KeptNames.{StandsSetBack}
 use Rattle.bisync_run.specs.Resyncs.{base_of_trees}
 use Rattle.bisync_run.specs.Sides.{Sides, start_of}
+use Rattle.bisync_run.specs.Stepping.{IsPartDone}
 use Rattle.bisync_run.specs.Untouched.{Remotes, AreUntouched}
 
 -- # The base and the trees, whatever call failed
@@ -39,15 +41,17 @@ abbrev pub LeavesOrdinaryBase : Opts → Limits → WorkFolder → Sides → Opt
 LeavesOrdinaryBase opts limits f s digest g now =
     (base : Option Base) → IsBase limits.listing f base → IsBase limits.listing g base ⊎ (HasNoBase limits.listing g ⊎ IsMadeNext opts limits f s digest g now)
 
--- Nothing refused the run, it is no dry run, and its trees are between those before and those that it is to leave.
-pub record AreOnTheWay (opts : Opts) (limits : Limits) (f : WorkFolder) (s : Sides) (digest : Option (List ℕ)) (now : Remotes) : Type 0 where
+-- Nothing refused the run, it is no dry run, the first of its steps are done and counted, and its trees are between those before
+-- and those that it is to leave.
+pub record AreOnTheWay (opts : Opts) (limits : Limits) (f : WorkFolder) (s : Sides) (digest : Option (List ℕ)) (start now : Remotes) : Type 0 where
   pub changing : opts.dry_run ≡ false
   pub course : Course opts limits f s digest
+  pub part : IsPartDone (plan (known_in opts s course.base) course.names (paths_through s course.base)) start now
   pub between : IsBetween (known_in opts s course.base) (start_of s) course.names (trees_in now)
 
 -- No side and no name was touched, or the trees are on the way.
 abbrev pub LeavesOrdinaryTrees : Opts → Limits → WorkFolder → Sides → Option (List ℕ) → Remotes → WorkFolder → Remotes → Type 0
-LeavesOrdinaryTrees opts limits f s digest start g now = (AreUntouched start now × (g ≡ f)) ⊎ AreOnTheWay opts limits f s digest now
+LeavesOrdinaryTrees opts limits f s digest start g now = (AreUntouched start now × (g ≡ f)) ⊎ AreOnTheWay opts limits f s digest start now
 
 -- # A good end
 
@@ -101,4 +105,4 @@ TellsCourse opts limits f s digest start g now before after (Ok end) =
 TellsCourse opts limits f s digest start g now before after (Err end) =
     (is_sink_fault end ≡ true)
     ⊎ (((after ≡ before) × AreUntouched start now × (g ≡ f))
-    ⊎ ((may_have_changed end ≡ true) × StandsSetBack limits end f g × ((lines : List ℕ) × AreCourseLines opts limits f s digest lines × (after ≡ before ++ lines))))
+    ⊎ ((may_have_changed end ≡ true) × (opts.dry_run ≡ false) × StandsSetBack limits end f g × ((lines : List ℕ) × AreCourseLines opts limits f s digest lines × (after ≡ before ++ lines))))

@@ -1,5 +1,5 @@
 -- What a run that is no resync promises, over the state at its entry and the state at its return, whatever call failed.
-use Rattle.std.specs.Prelude.{◌≡◌, ◌≢◌, ◌⊎◌, ◌++◌, ℕ, ℤ, List, Option, Bool, true, option_map}
+use Rattle.std.specs.Prelude.{◌≡◌, ◌≢◌, ◌⊎◌, ◌++◌, ℕ, ℤ, List, Option, Bool, true, false, option_map}
 use Rattle.bisync_tree.specs.Rows.{PathBytes, look}
 use Rattle.bisync_tree.specs.declared.options.Limits.{Limits}
 use Rattle.bisync_tree.specs.declared.options.Loser.TheVariants.{Delete}
@@ -60,7 +60,7 @@ KeepsOrdinaryBaseOf opts limits f start g now =
 abbrev pub LeavesOrdinaryTreesOf : Opts → Limits → WorkFolder → Remotes → Bool → ℤ → End → WorkFolder → Remotes → Type 0
 LeavesOrdinaryTreesOf opts limits f start told moment end g now =
     (AreUntouched start now × KeepsOwn opts end f g)
-    ⊎ (AtMoment told moment (λ now. IsFree now f.lock) × ((m : Matter opts f start) × AreOnTheWay opts limits f (sides_in m) m.digest now))
+    ⊎ (AtMoment told moment (λ now. IsFree now f.lock) × ((m : Matter opts f start) × AreOnTheWay opts limits f (sides_in m) m.digest start now))
 
 -- The run was done.
 abbrev pub IsDoneBy : Opts → Limits → WorkFolder → Remotes → WorkFolder → Remotes → Type 0
@@ -99,4 +99,4 @@ abbrev pub TellsOrdinaryRun : Opts → Limits → WorkFolder → Remotes → Wor
 TellsOrdinaryRun opts limits f start g now before last after end =
     (is_sink_fault end ≡ true)
     ⊎ (((is_after_good end ≡ true → opts.check_sync ≡ Only) × (after ≡ before ++ last) × AreUntouched start now × KeepsOwn opts end f g)
-    ⊎ ((may_tell_plan end ≡ true) × StandsSetBack limits end f g × ((m : Matter opts f start) × (lines : List ℕ) × AreCourseLines opts limits f (sides_in m) m.digest lines × (after ≡ (before ++ lines) ++ last))))
+    ⊎ ((may_tell_plan end ≡ true) × (is_after_good end ≡ false → opts.dry_run ≡ false) × StandsSetBack limits end f g × ((m : Matter opts f start) × (lines : List ℕ) × AreCourseLines opts limits f (sides_in m) m.digest lines × (after ≡ (before ++ lines) ++ last))))

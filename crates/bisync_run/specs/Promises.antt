@@ -6,6 +6,8 @@ pub use Rattle.bisync_device.specs.Remote.{KeepsTree}
 pub use Rattle.bisync_device.specs.WorkFolder.{Absent, WorkFolder, IsSettled, IsImage}
 pub use Rattle.bisync_work.specs.Locks.{ChangesLock, IsFree, KeepsBlocking}
 pub use Rattle.bisync_work.specs.Moves.{IsFallen}
+pub use Rattle.bisync_report.specs.LastLine.{last_text}
+pub use Rattle.bisync_report.specs.declared.ends.End.TheVariants.{Done, OutOfSync, Resynced}
 pub use Rattle.bisync_run.specs.Agreement.{LeavesInSync, LeavesResyncInSync, WasApartBefore}
 pub use Rattle.bisync_run.specs.Beginnings.{AnswersBeginningOf, IsWellBegunOf}
 pub use Rattle.bisync_run.specs.Closing.{AddsLast, HasNoListings, but_fallen_or_lock}

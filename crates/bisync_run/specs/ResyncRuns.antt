@@ -15,12 +15,14 @@ use Rattle.bisync_run.specs.EndKinds.{is_after_good, is_sink_fault, is_unlocked,
 use Rattle.bisync_run.specs.Entering.{AtMoment, IsEntryEnd}
 use Rattle.bisync_run.specs.FilterRules.{AreRulesOf}
 use Rattle.bisync_run.specs.HeldResyncs.{IsGoodEndOf}
-use Rattle.bisync_run.specs.KeptNames.{KeepsOwn}
+use Rattle.bisync_run.specs.KeptNames.{FellBefore, KeepsOwn}
 use Rattle.bisync_model.specs.Between.{IsMixOf}
+use Rattle.bisync_model.specs.Resync.{resync_plan}
 use Rattle.bisync_transfer.specs.StepTrees.{trees_in}
 use Rattle.bisync_run.specs.Resyncs.{HasOutcome, IsMadeAnew, IsResynced, resync_lines}
 use Rattle.bisync_run.specs.ResyncRefusals.{AnswersResync, HasNoResyncRefusal}
-use Rattle.bisync_run.specs.Sides.{Sides, resync_end, sides_of, start_of}
+use Rattle.bisync_run.specs.Sides.{Sides, resync_end, resync_known, resync_paths, sides_of, start_of}
+use Rattle.bisync_run.specs.Stepping.{IsPartDone}
 use Rattle.bisync_run.specs.Untouched.{Remotes, AreUntouched}
 
 -- the filter rules that apply to a run that begins with this folder, and what both sides are by them
@@ -59,12 +61,13 @@ LeavesBaseOf mode opts limits f start g now =
     ⊎ ((m : Matter opts f start) × IsMadeAnew mode limits f (sides_in m) g now))
 
 -- No side was touched, and no name but the lock and those that fall; or nothing refused the resync, and each side has at each
--- path what it had, or what it is to have.
+-- path what it had, or what it is to have, and the first of its steps are done and counted.
 abbrev pub LeavesTreesOf : Prefer → Opts → Limits → WorkFolder → Remotes → Bool → ℤ → End → WorkFolder → Remotes → Type 0
 LeavesTreesOf mode opts limits f start told moment end g now =
     (AreUntouched start now × KeepsOwn opts end f g)
     ⊎ (AtMoment told moment (λ now. IsFree now f.lock)
-    × ((m : Matter opts f start) × HasNoResyncRefusal mode limits f (sides_in m) × IsMixOf (start_of (sides_in m)) (resync_end mode (sides_in m)) (trees_in now)))
+    × ((m : Matter opts f start) × HasNoResyncRefusal mode limits f (sides_in m) × IsMixOf (start_of (sides_in m)) (resync_end mode (sides_in m)) (trees_in now)
+    × IsPartDone (resync_plan (resync_known mode (sides_in m)) (resync_paths (sides_in m))) start now))
 
 -- No side was touched; or each has at each path what it had, or what it is to have, by the rules.
 abbrev pub LeavesMixOf : Prefer → Opts → WorkFolder → Remotes → Remotes → Type 0
@@ -100,12 +103,12 @@ TellsPlanAnd mode opts limits tells f start before last after =
 -- What a run with this end told, where the sink didn't fail, and the last of it. A good end, or a lock that could not be
 -- removed after one, tells the lines of the plan first. Every other end tells nothing before it, and touched no side and, as a
 -- work folder that tells has it, no name but the lock and those that fall; or it tells the lines of the plan first, where the
--- run may have made changes.
+-- run may have made changes, after the listings fell.
 abbrev pub TellsRun : Prefer → Opts → Limits → Bool → WorkFolder → Remotes → WorkFolder → Remotes → List ℕ → List ℕ → List ℕ → End → Type 0
 TellsRun mode opts limits tells f start g now before last after end =
     (is_sink_fault end ≡ true)
     ⊎ (((is_after_good end ≡ false) × (after ≡ before ++ last) × AreUntouched start now × (IsTrue tells → KeepsOwn opts end f g))
-    ⊎ ((may_tell_plan end ≡ true) × TellsPlanAnd mode opts limits tells f start before last after))
+    ⊎ ((may_tell_plan end ≡ true) × (is_after_good end ≡ false → opts.dry_run ≡ false) × (IsTrue tells → FellBefore opts end f g) × TellsPlanAnd mode opts limits tells f start before last after))
 
 -- # The lock
 

@@ -22,6 +22,7 @@ use Rattle.bisync_run.specs.CarryingOut.{but_carried}
 use Rattle.bisync_run.specs.ResyncRefusals.{HasNoResyncRefusal}
 use Rattle.bisync_run.specs.ResyncWriting.{stored}
 use Rattle.bisync_run.specs.Sides.{Sides, resync_known, resync_paths, resync_end, start_of}
+use Rattle.bisync_run.specs.Stepping.{IsPartDone}
 use Rattle.bisync_run.specs.Untouched.{Remotes, AreUntouched}
 
 -- the listings of these trees, with this stamp and the compared fields
@@ -47,12 +48,12 @@ LeavesBase mode limits f s start g now =
     (base : Option Base) → IsBase limits.listing f base
     → (IsBase limits.listing g base × AreUntouched start now) ⊎ (HasNoBase limits.listing g ⊎ IsMadeAnew mode limits f s g now)
 
--- No side and no name was touched; or nothing refused the resync, and each side has at each path what it had, or what it is to
--- have.
+-- No side and no name was touched; or nothing refused the resync, each side has at each path what it had, or what it is to have,
+-- and the first of its steps are done and counted.
 abbrev pub LeavesTrees : Prefer → Limits → WorkFolder → Sides → Remotes → WorkFolder → Remotes → Type 0
 LeavesTrees mode limits f s start g now =
     (AreUntouched start now × (g ≡ f))
-    ⊎ (HasNoResyncRefusal mode limits f s × IsMixOf (start_of s) (resync_end mode s) (trees_in now))
+    ⊎ (HasNoResyncRefusal mode limits f s × IsMixOf (start_of s) (resync_end mode s) (trees_in now) × IsPartDone (resync_plan (resync_known mode s) (resync_paths s)) start now)
 
 -- the changes of a resync on a side
 abbrev pub resync_changes : Prefer → Sides → Side → ℕ

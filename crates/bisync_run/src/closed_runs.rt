@@ -64,7 +64,7 @@ pub fn run_to_close<A: Remote, B: Remote, W: Work, C: Clock, S: Sink>(
         LeavesTreesOf mode opts.now limits.now (W.state work.old).folder (by_side (A.state one.old) (B.state two.old)) C.tells (C.moment clock.old) result (W.state work.new).folder (by_side (A.state one.new) (B.state two.new)) }
     ensures mixed { (mode : Prefer) → opts.now.resync ≡ Some mode → IsTrue A.tells → IsTrue B.tells → KnowsRules W.tells opts.now.filters → LeavesMixOf mode opts.now (W.state work.old).folder (by_side (A.state one.old) (B.state two.old)) (by_side (A.state one.new) (B.state two.new)) }
     ensures outcome { (mode : Prefer) → opts.now.resync ≡ Some mode → IsTrue A.tells → IsTrue B.tells → KnowsRules W.tells opts.now.filters → opts.now.dry_run ≡ false → is_after_good result ≡ true → HasOutcomeOf mode opts.now (W.state work.old).folder (by_side (A.state one.old) (B.state two.old)) (by_side (A.state one.new) (B.state two.new)) }
-    ensures resync_fell { (mode : Prefer) → opts.now.resync ≡ Some mode → IsTrue W.tells → (Rose (W.state work.old).faults (W.state work.new).faults → ⊥) → is_after_good result ≡ false → StaysOrFell opts.now (W.state work.old).folder (W.state work.new).folder (KeepsTree A.tells (A.state one.old) (A.state one.new) × KeepsTree B.tells (B.state two.old) (B.state two.new)) }
+    ensures resync_fell { (mode : Prefer) → opts.now.resync ≡ Some mode → IsTrue W.tells → (Rose (W.state work.old).faults (W.state work.new).faults → ⊥) → is_after_good result ≡ false → StaysOrFell opts.now result (W.state work.old).folder (W.state work.new).folder (KeepsTree A.tells (A.state one.old) (A.state one.new) × KeepsTree B.tells (B.state two.old) (B.state two.new)) }
     ensures run_answers { opts.now.resync ≡ None → IsTrue A.tells → IsTrue B.tells → IsTrue W.tells →
         AnswersOrdinaryRun opts.now limits.now (W.state work.old).folder (by_side (A.state one.old) (B.state two.old)) C.tells (C.moment clock.old) result }
     ensures unrefused { opts.now.resync ≡ None → IsTrue A.tells → IsTrue B.tells → IsTrue W.tells → is_after_good result ≡ true →
@@ -90,7 +90,7 @@ pub fn run_to_close<A: Remote, B: Remote, W: Work, C: Clock, S: Sink>(
     ensures only_two { opts.now.resync ≡ None → opts.now.check_sync ≡ CheckSync.Only → KeepsTree B.tells (B.state two.old) (B.state two.new) }
     ensures only_base { opts.now.resync ≡ None → opts.now.check_sync ≡ CheckSync.Only → IsTrue W.tells → KeepsButFallen (lets_fall opts.now.resilient opts.now.dry_run result) (W.state work.old).folder (W.state work.new).folder }
     ensures only_sink { opts.now.resync ≡ None → opts.now.check_sync ≡ CheckSync.Only → S.state sink.new ≡ S.state sink.old }
-    ensures entered { IsTrue W.tells → is_before_lock result ≡ false → AtMoment C.tells (C.moment clock.old) (λ now. IsFree now (W.state work.old).folder.lock) × HasSomeRules opts.now.filters (W.state work.old).folder }
+    ensures entered { IsTrue W.tells → ((is_before_lock result ≡ true) × ChangesLock (W.state work.old).folder (W.state work.new).folder) ⊎ (AtMoment C.tells (C.moment clock.old) (λ now. IsFree now (W.state work.old).folder.lock) × HasSomeRules opts.now.filters (W.state work.old).folder) }
     ensures blocked { IsTrue W.tells → AtMoment C.tells (C.moment clock.old) (λ now. KeepsBlocking now (W.state work.old).folder (W.state work.new).folder) }
     ensures folder_base { IsTrue W.tells → LeavesFolderBase opts.now limits.now (W.state work.old).folder (by_side (A.state one.old) (B.state two.old)) result (W.state work.new).folder }
     ensures folder_next { IsTrue W.tells → Writes opts.now → is_after_good result ≡ true → LeavesNextInPlace opts.now limits.now (W.state work.old).folder (by_side (A.state one.old) (B.state two.old)) (W.state work.new).folder }
@@ -112,11 +112,12 @@ pub fn run_to_close<A: Remote, B: Remote, W: Work, C: Clock, S: Sink>(
     ensures digest_late { (mode : Prefer) → opts.now.resync ≡ Some mode → IsTrue W.tells → StoresDigestOf opts.now limits.now (W.state work.old).folder (by_side (A.state one.old) (B.state two.old)) (W.state work.new).folder }
     ensures no_digest { IsTrue W.tells → opts.now.filters ≡ None → (W.state work.new).folder.filters_md5 ≡ (W.state work.old).folder.filters_md5 }
     ensures entry { IsTrue W.tells → is_unlocked result ≡ true → IsEntryEnd opts.now.filters (W.state work.old).folder C.tells (C.moment clock.old) result }
-    ensures unlocked { IsTrue W.tells → is_unlocked result ≡ true → (W.state work.new).folder ≡ (W.state work.old).folder }
+    ensures unlocked { is_unlocked result ≡ true → (IsTrue W.tells → (W.state work.new).folder ≡ (W.state work.old).folder) × ((W.state work.new).faults ≡ (W.state work.old).faults) }
     ensures held_back { IsTrue C.tells → IsHeldBack (C.moment clock.old) result }
     ensures grounds { HasGrounds limits.now (by_side A.tells B.tells) result }
     ensures told { IsTold (by_side A.tells B.tells) (by_side (A.state one.old) (B.state two.old)) result }
     ensures counted { is_good result ≡ true → CountsChanges (by_side A.tells B.tells) (by_side (A.state one.old) (B.state two.old)) (by_side (A.state one.new) (B.state two.new)) result }
+    ensures moment { IsTrue C.tells → C.moment clock.new ≡ C.moment clock.old }
     ensures windows { ((A.state one.new).window ≡ (A.state one.old).window) × ((B.state two.new).window ≡ (B.state two.old).window) }
     ensures left1 { (A.state one.old).left ≡ None → (A.state one.new).left ≡ None }
     ensures left2 { (B.state two.old).left ≡ None → (B.state two.new).left ≡ None }

@@ -3,7 +3,7 @@
 
 ghost use Rattle.std.specs.Prelude.{◌≡◌, ◌⊎◌, ◌≤◌, ◌++◌, ℕ, List, IsTrue, IsOk, None, true, false};
 ghost use Rattle.bisync_device.specs.Faults.{Rose};
-ghost use Rattle.bisync_device.specs.WorkFolder.{Absent};
+ghost use Rattle.bisync_device.specs.WorkFolder.{Absent, WorkFolder};
 ghost use Rattle.bisync_work.specs.Moves.{Falls, IsFallen};
 ghost use Rattle.bisync_report.specs.LastLine.{last_text};
 ghost use Rattle.bisync_run.specs.Closing.{ClosesWith, CountsClose, Closes, Unlocks, HasNoListings, EndsWith};
@@ -23,6 +23,7 @@ pub fn close<W: Work>(opts: &Opts, work: &mut W, ended: Result<End, End>) -> End
     ensures kept { IsTrue W.tells → falls_at_close opts.now.resilient opts.now.dry_run ended ≡ false → Unlocks (W.state work.old).folder (W.state work.new).folder }
     ensures fallen { IsTrue W.tells → falls_at_close opts.now.resilient opts.now.dry_run ended ≡ true → (Rose (W.state work.old).faults (W.state work.new).faults → ⊥) → HasNoListings (W.state work.new).folder }
     ensures fell { IsTrue W.tells → falls_at_close opts.now.resilient opts.now.dry_run ended ≡ true → (Rose (W.state work.old).faults (W.state work.new).faults → ⊥) → IsFallen (W.state work.old).folder (W.state work.new).folder }
+    ensures stays_fallen { IsTrue W.tells → (f : WorkFolder) → IsFallen f (W.state work.old).folder → IsFallen f (W.state work.new).folder }
     ensures freed { IsTrue W.tells → (Rose (W.state work.old).faults (W.state work.new).faults → ⊥) → (W.state work.new).folder.lock ≡ Absent }
     ensures good { IsTrue W.tells → IsOk ended → is_good_end result ≡ true → (W.state work.new).folder.lock ≡ Absent }
     ensures counts { CountsClose ended result (W.state work.old).faults (W.state work.new).faults }
@@ -44,6 +45,7 @@ pub fn close<W: Work>(opts: &Opts, work: &mut W, ended: Result<End, End>) -> End
 /// call fails, the fall ends there.
 fn fall_where<W: Work>(opts: &Opts, work: &mut W, ended: &Result<End, End>)
     ensures good_names { IsTrue W.tells → (limit : ℕ) → HasGoodNames limit (W.state work.old).folder → HasGoodNames limit (W.state work.new).folder }
+    ensures stays_fallen { IsTrue W.tells → (f : WorkFolder) → IsFallen f (W.state work.old).folder → IsFallen f (W.state work.new).folder }
     ensures falls { IsTrue W.tells → Falls (W.state work.old).folder (W.state work.new).folder }
     ensures kept { falls_at_close opts.now.resilient opts.now.dry_run ended.now ≡ false → work.new ≡ work.old }
     ensures fallen { IsTrue W.tells → falls_at_close opts.now.resilient opts.now.dry_run ended.now ≡ true → (Rose (W.state work.old).faults (W.state work.new).faults → ⊥) → HasNoListings (W.state work.new).folder }

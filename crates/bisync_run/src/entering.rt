@@ -5,7 +5,7 @@ ghost use Rattle.bisync_device.specs.Work.{KeepsFolder};
 ghost use Rattle.bisync_tree.specs.Ranges.{IsLongEnough};
 ghost use Rattle.bisync_work.specs.Locks.{ChangesLock, IsFree, KeepsBlocking};
 ghost use Rattle.bisync_run.specs.Counts.{counts, HasCauses};
-ghost use Rattle.bisync_run.specs.EndKinds.{is_before_lock};
+ghost use Rattle.bisync_run.specs.EndKinds.{is_before_lock, is_unlocked};
 ghost use Rattle.bisync_run.specs.Entering.{AtMoment, IsEntryEnd, IsHeldBack, IsRulesEnd, IsNoLock, session_of};
 ghost use Rattle.bisync_run.specs.FilterRules.{AreRulesOf, KnowsRules};
 ghost use Rattle.bisync_run.specs.LeftNames.{IsOwnLock, MayTakeLock};
@@ -61,9 +61,10 @@ pub fn enter<W: Work, C: Clock>(
     ensures only { IfErr result (λ end. is_before_lock end ≡ true) }
     ensures kind { IfErr result (IsUnlockedEnd opts.now.filters) }
     ensures kept { IsTrue W.tells → IfErr result (λ end. end ≢ End.WorkFault → (W.state work.new).folder ≡ (W.state work.old).folder) }
+    ensures steady { IfErr result (λ end. is_unlocked end ≡ true → (W.state work.new).faults ≡ (W.state work.old).faults) }
     ensures others { IsTrue W.tells → ChangesLock (W.state work.old).folder (W.state work.new).folder }
     ensures own_lock { IsTrue W.tells → OnOk result (IsOwnLock opts.now.max_lock C.tells (C.moment clock.old) (W.state work.new).folder.lock) }
-    ensures makes_lock { IsTrue W.tells → IfErr result (λ _. MayTakeLock opts.now C.tells (C.moment clock.old) (W.state work.old).folder (W.state work.new).folder) }
+    ensures makes_lock { IsTrue W.tells → IfErr result (λ end. MayTakeLock opts.now C.tells (C.moment clock.old) end (W.state work.old).folder (W.state work.new).folder) }
     ensures lock_new { IsTrue W.tells → OnOk result (KeepsLockNew (W.state work.old).folder (W.state work.new).folder) }
     ensures moment { IsTrue C.tells → C.moment clock.new ≡ C.moment clock.old }
     ensures left { (W.state work.old).left ≡ None → (W.state work.new).left ≡ None }
@@ -103,6 +104,7 @@ fn rules_of<W: Work>(
     ensures refusal { IsTrue W.tells → IfErr result (IsRulesEnd opts.now.filters (W.state work.old).folder.filters) }
     ensures only { IfErr result (λ end. is_before_lock end ≡ true) }
     ensures kind { IfErr result (IsUnlockedEnd opts.now.filters) }
+    ensures steady { IfErr result (λ end. is_unlocked end ≡ true → (W.state work.new).faults ≡ (W.state work.old).faults) }
     ensures not_locked { IfErr result IsNoLock }
     ensures folder { KeepsFolder W.tells (W.state work.old) (W.state work.new) }
     ensures left { (W.state work.old).left ≡ None → (W.state work.new).left ≡ None }

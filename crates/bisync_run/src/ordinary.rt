@@ -93,6 +93,7 @@ pub fn ordinary<A: Remote, B: Remote, W: Work, C: Clock, S: Sink>(
     ensures compares_sink { opts.now.check_sync ≡ CheckSync.Only → S.state sink.new ≡ S.state sink.old }
     ensures grounds { IfErr result (HasGrounds limits.now (by_side A.tells B.tells)) }
     ensures told { IsTold (by_side A.tells B.tells) (by_side (A.state one.old) (B.state two.old)) (end_of result) }
+    ensures moment { IsTrue C.tells → C.moment clock.new ≡ C.moment clock.old }
     ensures windows { ((A.state one.new).window ≡ (A.state one.old).window) × ((B.state two.new).window ≡ (B.state two.old).window) }
     ensures left1 { (A.state one.old).left ≡ None → (A.state one.new).left ≡ None }
     ensures left2 { (B.state two.old).left ≡ None → (B.state two.new).left ≡ None }

@@ -14,7 +14,7 @@ ghost use Rattle.bisync_run.specs.CarryingOut.{AreWithin, LeavesOneBase, LosesOr
 ghost use Rattle.bisync_run.specs.CountedChanges.{HasCounted};
 ghost use Rattle.bisync_run.specs.Counts.{counts, HasCauses};
 ghost use Rattle.bisync_run.specs.EndKinds.{may_have_switched_after};
-ghost use Rattle.bisync_run.specs.KeptNames.{HasGoodNames};
+ghost use Rattle.bisync_run.specs.KeptNames.{HasGoodNames, IsSideEnd};
 ghost use Rattle.bisync_run.specs.LeftNames.{FallsAs, FellWith, KeepsOwnLock};
 ghost use Rattle.bisync_run.specs.LockNew.{KeepsLockNew};
 ghost use Rattle.bisync_run.specs.ResyncWriting.{next_base, stored};
@@ -52,6 +52,7 @@ pub fn carry_out<A: Remote, B: Remote, W: Work, C: Clock>(
     ensures folder_base { IsTrue W.tells → (limit : ℕ) → limit < 2 ^ 64 → AreWithin limit prepared → LosesOrNext limit prepared (may_have_switched_after result) (W.state work.old).folder (W.state work.new).folder }
     ensures falls_as { IsTrue W.tells → (Rose (W.state work.old).faults (W.state work.new).faults → ⊥) → IfErr result (λ _. FallsAs (W.state work.old).folder (W.state work.new).folder) }
     ensures fell { IsTrue W.tells → (Rose (W.state work.old).faults (W.state work.new).faults → ⊥) → IfErr result (λ _. FellWith digest.now (W.state work.old).folder (W.state work.new).folder) }
+    ensures fell_before { IsTrue W.tells → IfErr result (λ end. IsSideEnd end → FellWith digest.now (W.state work.old).folder (W.state work.new).folder) }
     ensures own_lock { IsTrue W.tells → KeepsOwnLock renewal.max_lock C.tells (C.moment clock.old) (W.state work.old).folder.lock (W.state work.new).folder.lock }
     ensures good_names { IsTrue W.tells → (limit : ℕ) → AreWithin limit prepared → HasGoodNames limit (W.state work.old).folder → HasGoodNames limit (W.state work.new).folder }
     ensures digest_late { IsTrue W.tells → (limit : ℕ) → limit < 2 ^ 64 → AreWithin limit prepared → (base : Option Base) → IsBase limit (W.state work.old).folder base
@@ -66,6 +67,7 @@ pub fn carry_out<A: Remote, B: Remote, W: Work, C: Clock>(
     ensures moved { IfErr result MovedDiffers }
     ensures read { IfErr result MovedIsRead }
     ensures found { FindsAll (by_side A.tells B.tells) prepared.plan.steps.items (by_side (A.state one.old) (B.state two.old)) → IfErr result (FindsTold (by_side A.tells B.tells)) }
+    ensures moment { IsTrue C.tells → C.moment clock.new ≡ C.moment clock.old }
     ensures windows { ((A.state one.new).window ≡ (A.state one.old).window) × ((B.state two.new).window ≡ (B.state two.old).window) }
     ensures left1 { (A.state one.old).left ≡ None → (A.state one.new).left ≡ None }
     ensures left2 { (B.state two.old).left ≡ None → (B.state two.new).left ≡ None }

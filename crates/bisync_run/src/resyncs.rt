@@ -15,7 +15,7 @@ ghost use Rattle.bisync_run.specs.EndKinds.{is_good, is_unlocked, may_have_chang
 ghost use Rattle.bisync_run.specs.FolderBases.{HasNextInPlace, LosesOrTakesNext};
 ghost use Rattle.bisync_run.specs.Grounds.{HasGrounds, IsTold};
 ghost use Rattle.bisync_run.specs.HeldResyncs.{end_of, IsGoodEndOf, TellsPlan};
-ghost use Rattle.bisync_run.specs.KeptNames.{KeepsGoodNames};
+ghost use Rattle.bisync_run.specs.KeptNames.{IsSideEnd, KeepsGoodNames};
 ghost use Rattle.bisync_run.specs.LeftNames.{FallsAs, FellWith, KeepsOwnLock, StoresDigest};
 ghost use Rattle.bisync_run.specs.LockNew.{KeepsLockNew};
 ghost use Rattle.bisync_run.specs.ResyncEnds.{IsResyncEnd};
@@ -80,7 +80,7 @@ pub fn resync<A: Remote, B: Remote, W: Work, C: Clock, S: Sink>(
     ensures quiet { IsTrue S.tells → (Rose (S.state sink.old).faults (S.state sink.new).faults → ⊥) → may_tell_plan (end_of result) ≡ false → (S.state sink.new).bytes ≡ (S.state sink.old).bytes }
     ensures lines { IsTrue S.tells → (lines : List ℕ) × ((S.state sink.new).bytes ≡ (S.state sink.old).bytes ++ lines) }
     ensures report { IsTrue A.tells → IsTrue B.tells → IsTrue S.tells →
-        TellsPlan mode (sides_of opts.now.compare entered.now.rules (A.state one.old) (B.state two.old)) (by_side (A.state one.old) (B.state two.old)) (by_side (A.state one.new) (B.state two.new)) (KeepsFolder W.tells (W.state work.old) (W.state work.new)) (IsTrue W.tells → HasNoResyncRefusal mode limits.now (W.state work.old).folder (sides_of opts.now.compare entered.now.rules (A.state one.old) (B.state two.old))) (S.state sink.old).bytes (S.state sink.new).bytes result }
+        TellsPlan mode opts.now.dry_run (sides_of opts.now.compare entered.now.rules (A.state one.old) (B.state two.old)) (by_side (A.state one.old) (B.state two.old)) (by_side (A.state one.new) (B.state two.new)) (KeepsFolder W.tells (W.state work.old) (W.state work.new)) (IsTrue W.tells → HasNoResyncRefusal mode limits.now (W.state work.old).folder (sides_of opts.now.compare entered.now.rules (A.state one.old) (B.state two.old))) (λ end. IsTrue W.tells → IsSideEnd end → FellWith entered.now.digest (W.state work.old).folder (W.state work.new).folder) (S.state sink.old).bytes (S.state sink.new).bytes result }
     ensures early_one { may_have_changed (end_of result) ≡ false → KeepsTree A.tells (A.state one.old) (A.state one.new) }
     ensures early_two { may_have_changed (end_of result) ≡ false → KeepsTree B.tells (B.state two.old) (B.state two.new) }
     ensures early { may_have_changed (end_of result) ≡ false → KeepsFolder W.tells (W.state work.old) (W.state work.new) }
@@ -89,6 +89,7 @@ pub fn resync<A: Remote, B: Remote, W: Work, C: Clock, S: Sink>(
     ensures dry { opts.now.dry_run ≡ true → KeepsFolder W.tells (W.state work.old) (W.state work.new) }
     ensures grounds { IfErr result (HasGrounds limits.now (by_side A.tells B.tells)) }
     ensures told { IsTold (by_side A.tells B.tells) (by_side (A.state one.old) (B.state two.old)) (end_of result) }
+    ensures moment { IsTrue C.tells → C.moment clock.new ≡ C.moment clock.old }
     ensures windows { ((A.state one.new).window ≡ (A.state one.old).window) × ((B.state two.new).window ≡ (B.state two.old).window) }
     ensures left1 { (A.state one.old).left ≡ None → (A.state one.new).left ≡ None }
     ensures left2 { (B.state two.old).left ≡ None → (B.state two.new).left ≡ None }

@@ -20,7 +20,7 @@ use Rattle.bisync_run.proofs.CoursesBefore.{run_answers_before, unrefused_before
 use Rattle.bisync_run.proofs.DoneSteps.{untouched_same}
 use Rattle.bisync_run.proofs.EndCases.{false_true, good_is_after_good}
 use Rattle.bisync_run.proofs.EndKindLaws.{unlocked_is_own, unlocked_not_after_good, unlocked_fell, freed_is_after_good}
-use Rattle.bisync_run.proofs.FallsAsLaws.{keeps_tree_same, resync_fell, where_it_falls}
+use Rattle.bisync_run.proofs.FallsAsLaws.{fell_late, keeps_tree_same, resync_fell, where_it_falls}
 use Rattle.bisync_run.proofs.FolderBases.{folder_base_closed, folder_base_unlocked, folder_next_closed}
 use Rattle.bisync_run.proofs.GoodNames.{locked_good}
 use Rattle.bisync_run.proofs.LockNewLaws.{lock_new_twice, lock_new_same}
@@ -121,7 +121,7 @@ returns-in-Err-clause-trees g c mode mode_is one two work = inl (untouched_same 
 pub returns-clause-trees : goal.returns-clause-trees
 returns-clause-trees g c mode mode_is one two work =
     let f = (g.W.Work.state c.args.work.now).folder in let m : Matter c.args.opts.now f _ = record { rules = c.in-Ok.entered.rules; digest = c.in-Ok.entered.digest; are = c.in-Ok.ensures.rules (inl work) } in
-    ⊎_elim (λ early. inl (early.0, kept_early c.args.opts.now.resilient c.args.opts.now.dry_run c.held-ended.result c.close.result c.close.ensures.end f _ _ _ (c.in-Ok.ensures.others work) (c.close.ensures.closes work) (c.close.ensures.kept work) early.1)) (λ some. inr (c.in-Ok.ensures.free work, (m, none_before mode c.args.limits.now f _ (c.in-Ok.ensures.others work) _ some.0, some.1)))
+    ⊎_elim (λ early. inl (early.0, kept_early c.args.opts.now.resilient c.args.opts.now.dry_run c.held-ended.result c.close.result c.close.ensures.end f _ _ _ (c.in-Ok.ensures.others work) (c.close.ensures.closes work) (c.close.ensures.kept work) early.1)) (λ some. inr (c.in-Ok.ensures.free work, (m, none_before mode c.args.limits.now f _ (c.in-Ok.ensures.others work) _ some.0, some.1, some.2)))
     (c.held-ended.ensures.trees mode mode_is one two work)
 
 pub returns-clause-untouched_one : goal.returns-clause-untouched_one
@@ -200,9 +200,10 @@ returns-in-Err-clause-report g c mode mode_is one two sink work = tells_unlocked
 pub returns-clause-report : goal.returns-clause-report
 returns-clause-report g c mode mode_is one two sink work =
     let a = g.A.Remote.state c.args.one.now in let b = g.B.Remote.state c.args.two.now in let f = (g.W.Work.state c.args.work.now).folder in let m : Matter c.args.opts.now f (by_side a b) = record { rules = c.in-Ok.entered.rules; digest = c.in-Ok.entered.digest; are = c.in-Ok.ensures.rules work } in
-    tells_closed mode c.args.opts.now c.args.limits.now g.W.Work.tells f (g.W.Work.state c.close.new.work).folder (by_side a b) (by_side (g.A.Remote.state c.held-ended.new.one) (g.B.Remote.state c.held-ended.new.two)) m _ _
+    tells_closed mode c.args.opts.now c.args.limits.now g.W.Work.tells f (g.W.Work.state c.close.new.work).folder (by_side a b) (by_side (g.A.Remote.state c.held-ended.new.one) (g.B.Remote.state c.held-ended.new.two)) m _ _ _
     (g.S.Sink.state c.args.sink.now).bytes (g.S.Sink.state c.held-ended.new.sink).bytes _ _ c.held-ended.result c.close.result
-    c.held-ended.ensures.well c.held-ended.ensures.causes.fault c.close.ensures.end (λ kept t. kept_early c.args.opts.now.resilient c.args.opts.now.dry_run c.held-ended.result c.close.result c.close.ensures.end f _ _ _ (c.in-Ok.ensures.others t) (c.close.ensures.closes t) (c.close.ensures.kept t) (kept t)) (λ ok t. none_before mode c.args.limits.now f _ (c.in-Ok.ensures.others t) _ (ok t)) (c.held-ended.ensures.report mode mode_is one two sink)
+    c.held-ended.ensures.well c.held-ended.ensures.causes.fault c.close.ensures.end (λ kept t. kept_early c.args.opts.now.resilient c.args.opts.now.dry_run c.held-ended.result c.close.result c.close.ensures.end f _ _ _ (c.in-Ok.ensures.others t) (c.close.ensures.closes t) (c.close.ensures.kept t) (kept t)) (λ ok t. none_before mode c.args.limits.now f _ (c.in-Ok.ensures.others t) _ (ok t))
+    (λ end same fell t. fell_late c.args.opts.now c.in-Ok.entered.rules c.in-Ok.entered.digest end c.close.result f (g.W.Work.state c.enter.new.work).folder (g.W.Work.state c.held-ended.new.work).folder _ (c.in-Ok.ensures.rules (inl t)) (c.in-Ok.ensures.others t) (c.close.ensures.closes t) same (fell t) (c.close.ensures.stays_fallen t)) (c.held-ended.ensures.report mode mode_is one two sink)
 
 -- # An ordinary run
 
@@ -318,10 +319,10 @@ pub returns-clause-blocked : goal.returns-clause-blocked
 returns-clause-blocked g c work = blocked_nowhere (g.W.Work.state c.args.work.now).folder _ _ _ (c.in-Ok.ensures.free work)
 
 pub returns-in-Err-clause-entered : goal.returns-in-Err-clause-entered
-returns-in-Err-clause-entered g c work later = false_true (sym later ∙ c.in-Err.ensures.only)
+returns-in-Err-clause-entered g c work = inl (c.in-Err.ensures.only, c.in-Err.ensures.others work)
 
 pub returns-clause-entered : goal.returns-clause-entered
-returns-clause-entered g c work later = (c.in-Ok.ensures.free work, (c.in-Ok.entered.rules, c.in-Ok.entered.digest, c.in-Ok.ensures.rules (inl work)))
+returns-clause-entered g c work = inr (c.in-Ok.ensures.free work, (c.in-Ok.entered.rules, c.in-Ok.entered.digest, c.in-Ok.ensures.rules (inl work)))
 
 pub returns-in-Err-clause-fell : goal.returns-in-Err-clause-fell
 returns-in-Err-clause-fell g c work fell never =
@@ -404,10 +405,10 @@ pub returns-clause-good_names : goal.returns-clause-good_names
 returns-clause-good_names g c work good = c.close.ensures.good_names work c.args.limits.now.listing (c.held-ended.ensures.good_names work (locked_good c.args.limits.now.listing _ _ (c.in-Ok.ensures.others work) good))
 
 pub returns-in-Err-clause-unlocked : goal.returns-in-Err-clause-unlocked
-returns-in-Err-clause-unlocked g c work un = c.in-Err.ensures.kept work (λ is. false_true (sym (ap is_unlocked is) ∙ un))
+returns-in-Err-clause-unlocked g c un = (λ work. c.in-Err.ensures.kept work (λ is. false_true (sym (ap is_unlocked is) ∙ un)), c.in-Err.ensures.steady un)
 
 pub returns-clause-unlocked : goal.returns-clause-unlocked
-returns-clause-unlocked g c work un = absurd (locked_closed c.held-ended.result c.close.result c.close.ensures.end c.held-ended.ensures.only un)
+returns-clause-unlocked g c un = absurd (locked_closed c.held-ended.result c.close.result c.close.ensures.end c.held-ended.ensures.only un)
 
 pub returns-in-Err-clause-mixed : goal.returns-in-Err-clause-mixed
 returns-in-Err-clause-mixed g c mode mode_is one two known = inl (untouched_same (by_side (g.A.Remote.state c.args.one.now) (g.B.Remote.state c.args.two.now)))
@@ -424,7 +425,7 @@ returns-clause-outcome g c mode mode_is one two known dry good =
     (record { rules = c.in-Ok.entered.rules; digest = c.in-Ok.entered.digest; are = c.in-Ok.ensures.rules known }, on_ok c.held-ended.result ok (c.held-ended.ensures.outcome mode mode_is one two dry))
 
 pub returns-in-Err-clause-resync_fell : goal.returns-in-Err-clause-resync_fell
-returns-in-Err-clause-resync_fell g c mode mode_is work never bad = inl (c.in-Err.ensures.others work, (keeps_tree_same g.A.Remote.tells (g.A.Remote.state c.args.one.now), keeps_tree_same g.B.Remote.tells (g.B.Remote.state c.args.two.now)))
+returns-in-Err-clause-resync_fell g c mode mode_is work never bad = inl ((keeps_tree_same g.A.Remote.tells (g.A.Remote.state c.args.one.now), keeps_tree_same g.B.Remote.tells (g.B.Remote.state c.args.two.now)), inl (c.in-Err.ensures.others work))
 
 pub returns-clause-resync_fell : goal.returns-clause-resync_fell
 returns-clause-resync_fell g c mode mode_is work never bad =

@@ -24,3 +24,12 @@ returns-in-Ok-freed-clause-good_names g c t limit good = unlocked_good limit _ _
 
 pub returns-in-Err-freed-clause-good_names : goal.returns-in-Err-freed-clause-good_names
 returns-in-Err-freed-clause-good_names g c t limit good = unlocked_good limit _ _ (c.free_lock-freed.ensures.others t) (c.fall_where.ensures.good_names t limit good)
+
+pub returns-in-Err-clause-stays_fallen : goal.returns-in-Err-clause-stays_fallen
+returns-in-Err-clause-stays_fallen g c t f is = fell_unlocked _ _ _ (c.fall_where.ensures.stays_fallen t f is) (c.free_lock-freed.ensures.others t)
+
+pub returns-in-Ok-freed-clause-stays_fallen : goal.returns-in-Ok-freed-clause-stays_fallen
+returns-in-Ok-freed-clause-stays_fallen g c t f is = fell_unlocked _ _ _ (c.fall_where.ensures.stays_fallen t f is) (c.free_lock-freed.ensures.others t)
+
+pub returns-in-Err-freed-clause-stays_fallen : goal.returns-in-Err-freed-clause-stays_fallen
+returns-in-Err-freed-clause-stays_fallen g c t f is = fell_unlocked _ _ _ (c.fall_where.ensures.stays_fallen t f is) (c.free_lock-freed.ensures.others t)

@@ -1,4 +1,4 @@
-use Rattle.std.proofs.Common.{rules, FitsSigned, ◌∙◌, inl, inr}
+use Rattle.std.proofs.Common.{rules, FitsSigned, ◌∙◌, refl, inl, inr}
 use Rattle.std.proofs.lemmas.Int.{to_z-of_z}
 use Rattle.std.specs.Int.{w64}
 use Rattle.bisync_run.proofs.OwnLocks.{made_since, some_rules}
@@ -35,6 +35,7 @@ pub returns-in-Err-take_lock-clause-makes_lock : goal.returns-in-Err-take_lock-c
 returns-in-Err-take_lock-clause-makes_lock g c work =
     let now : FitsSigned w64 c.now-now.result = search rules in
     inr (
+      refl,
       some_rules _ (g.W.Work.state c.args.work.now).folder (g.W.Work.state c.attach.new.self).folder (c.attach.ensures.folder work) _ _ (c.in-Ok.ensures.rules (inl work)),
       made_since _ _ _ _ (g.W.Work.state c.args.work.now).folder _ (g.W.Work.state c.take_lock.new.work).folder (c.in-Ok.ensures.folder work ∙ c.attach.ensures.folder work)
           (λ clock. to_z-of_z w64 _ now ∙ c.now-now.ensures.told clock) (c.take_lock.ensures.lock work),

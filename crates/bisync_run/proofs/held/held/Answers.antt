@@ -3,6 +3,8 @@ use Rattle.bisync_tree.specs.declared.options.Prefer.{Prefer}
 use Rattle.bisync_device.specs.Work.{KeepsFolder}
 use Rattle.bisync_model.specs.Trees.{by_side}
 use Rattle.bisync_run.specs.HeldResyncs.{TellsPlan, end_of}
+use Rattle.bisync_run.specs.KeptNames.{IsSideEnd}
+use Rattle.bisync_run.specs.LeftNames.{FellWith}
 use Rattle.bisync_run.specs.ResyncRefusals.{HasNoResyncRefusal}
 use Rattle.bisync_run.specs.Resyncs.{HasOutcome, IsResynced, LeavesBase, LeavesMix, LeavesTrees}
 use Rattle.bisync_run.specs.Sides.{sides_of}
@@ -39,8 +41,9 @@ returns-in-Some-clause-report g c mode is one two sink =
     let a = g.A.Remote.state c.args.one.now in
     let b = g.B.Remote.state c.args.two.now in
     let now = by_side (g.A.Remote.state c.resync.new.one) (g.B.Remote.state c.resync.new.two) in
-    subst (λ (m : Prefer). TellsPlan m (sides_of c.args.opts.now.compare c.args.entered.now.rules a b) (by_side a b) now (KeepsFolder g.W.Work.tells (g.W.Work.state c.args.work.now) (g.W.Work.state c.resync.new.work))
-    (IsTrue g.W.Work.tells → HasNoResyncRefusal m c.args.limits.now (g.W.Work.state c.args.work.now).folder (sides_of c.args.opts.now.compare c.args.entered.now.rules a b)) (g.S.Sink.state c.args.sink.now).bytes (g.S.Sink.state c.resync.new.sink).bytes c.resync.result)
+    subst (λ (m : Prefer). TellsPlan m c.args.opts.now.dry_run (sides_of c.args.opts.now.compare c.args.entered.now.rules a b) (by_side a b) now (KeepsFolder g.W.Work.tells (g.W.Work.state c.args.work.now) (g.W.Work.state c.resync.new.work))
+    (IsTrue g.W.Work.tells → HasNoResyncRefusal m c.args.limits.now (g.W.Work.state c.args.work.now).folder (sides_of c.args.opts.now.compare c.args.entered.now.rules a b))
+    (λ end. IsTrue g.W.Work.tells → IsSideEnd end → FellWith c.args.entered.now.digest (g.W.Work.state c.args.work.now).folder (g.W.Work.state c.resync.new.work).folder) (g.S.Sink.state c.args.sink.now).bytes (g.S.Sink.state c.resync.new.sink).bytes c.resync.result)
     (some_same c.in-Some.mode mode (sym c.in-Some.is ∙ is)) (c.resync.ensures.report one two sink)
 
 -- # What the work folder alone tells

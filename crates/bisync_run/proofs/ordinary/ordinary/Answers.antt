@@ -221,7 +221,7 @@ returns-clause-report g c one two work sink =
     let stands = ordinary_stands c.args.opts.now c.args.limits.now _ c.args.entered.now.digest f (g.W.Work.state c.start.new.work).folder (c.in-Ok.ensures.folder work) c.in-Ok.started (c.in-Ok.ensures.starts work) c.in-Ok-look_ordinary.look
     c.in-Ok-look_ordinary.ensures.compare (omega arith) (are_within c.args.limits.now (prepared_of c.in-Ok.started.stamp c.in-Ok-look_ordinary.look) c.in-Ok-look_ordinary.ensures.within1 c.in-Ok-look_ordinary.ensures.within2)
     c.in-Err-carry_out_ordinary.end (g.W.Work.state c.carry_out_ordinary.new.work).folder (c.in-Err-carry_out_ordinary.ensures.stands work) in
-    inr (inr (step_may_change c.in-Err-carry_out_ordinary.end c.in-Err-carry_out_ordinary.ensures.end, stands, told_held c.args.opts.now c.args.limits.now c.args.entered.now.rules c.args.entered.now.digest a b f c.in-Ok.started.stamp c.in-Ok.started.pair c.in-Ok-look_ordinary.look look (g.S.Sink.state c.args.sink.now).bytes (g.S.Sink.state c.plan_lines.new.sink).bytes (c.in-Ok-plan_lines.ensures.bytes sink)))
+    inr (inr (step_may_change c.in-Err-carry_out_ordinary.end c.in-Err-carry_out_ordinary.ensures.end, c.if-opts.false, stands, told_held c.args.opts.now c.args.limits.now c.args.entered.now.rules c.args.entered.now.digest a b f c.in-Ok.started.stamp c.in-Ok.started.pair c.in-Ok-look_ordinary.look look (g.S.Sink.state c.args.sink.now).bytes (g.S.Sink.state c.plan_lines.new.sink).bytes (c.in-Ok-plan_lines.ensures.bytes sink)))
 
 pub returns-clause-told : goal.returns-clause-told
 returns-clause-told g c =

@@ -132,3 +132,14 @@ pub returns-clause-good_names : goal.returns-clause-good_names
 returns-clause-good_names g c work limit fits good =
     switched_good limit (g.W.Work.state c.write_resync.new.work).folder (g.W.Work.state c.do_steps.new.work).folder (g.W.Work.state c.switch.new.work).folder (next_base c.args.prepared)
     (c.in-Ok.ensures.ready work limit fits.one fits.two) (c.do_steps.ensures.lock work) (c.switch.ensures.begun work) (c.write_resync.ensures.good_names work limit good)
+
+-- # A fall before the steps
+
+pub returns-in-Err-clause-fell_before : goal.returns-in-Err-clause-fell_before
+returns-in-Err-clause-fell_before g c work side = absurd side
+
+pub returns-in-Err-do_steps-clause-fell_before : goal.returns-in-Err-do_steps-clause-fell_before
+returns-in-Err-do_steps-clause-fell_before g c work side = rewritten_fell _ _ (g.W.Work.state c.do_steps.new.work).folder (c.in-Ok.ensures.rewritten work) (c.do_steps.ensures.lock work)
+
+pub returns-clause-fell_before : goal.returns-clause-fell_before
+returns-clause-fell_before g c work side = absurd side

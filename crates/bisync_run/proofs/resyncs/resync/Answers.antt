@@ -1,4 +1,4 @@
-use Rattle.std.proofs.Common.{◌++◌, ◌<◌, ◌^◌, ◌∙◌, ap, refl, inl, inr, arith, ℕ, List}
+use Rattle.std.proofs.Common.{◌++◌, ◌<◌, ◌^◌, ◌∙◌, ap, refl, subst, inl, inr, arith, ℕ, List}
 use Rattle.bisync_tree.specs.declared.sides.Side.TheVariants.{One, Two}
 use Rattle.bisync_device.specs.WorkFolder.{WorkFolder}
 use Rattle.bisync_model.specs.Trees.{by_side}
@@ -177,6 +177,8 @@ returns-clause-report g c one two sink =
     let f = (g.W.Work.state c.args.work.now).folder in
     inr (inr (
       step_may_change c.in-Err-carry_out.end c.in-Err-carry_out.ensures.end,
+      c.if-opts.false,
+      (λ work side. subst (λ (h : WorkFolder). FellWith c.args.entered.now.digest h (g.W.Work.state c.carry_out.new.work).folder) (c.in-Ok.ensures.folder work) (c.in-Err-carry_out.ensures.fell_before work side)),
       (λ work. c.in-Ok.ensures.accepted one two work),
       c.in-Ok-plan_lines.ensures.bytes sink
           ∙ ap (λ (l : List ℕ). (g.S.Sink.state c.args.sink.now).bytes ++ l)

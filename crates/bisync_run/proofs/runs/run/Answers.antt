@@ -14,10 +14,11 @@ use Rattle.bisync_run.proofs.BasesSetBack.{set_back_left}
 use Rattle.bisync_run.proofs.BeginningLaws.{begins_told}
 use Rattle.bisync_run.proofs.BuiltEnds.{told_built}
 use Rattle.bisync_run.proofs.ClosedEnds.{tells_last}
-use Rattle.bisync_run.proofs.ClosedKinds.{no_rise_first, own_told, early_told, fell_told, kept_told, unfallen_told, freed_told, held_told, bad_told, before_told, unlocked_told}
+use Rattle.bisync_run.proofs.ClosedKinds.{no_rise_first, own_told, early_told, fell_told, kept_told, unfallen_told, freed_told, bad_same, bad_told, before_told, unlocked_told}
 use Rattle.bisync_run.proofs.CountedRuns.{counted_told}
 use Rattle.bisync_run.proofs.InSyncRuns.{in_sync_after, resync_in_sync_after, was_apart}
 use Rattle.bisync_run.proofs.EndLaws.{no_rise_since}
+use Rattle.bisync_run.proofs.FallsAsLaws.{resync_fell_told}
 use Rattle.bisync_run.proofs.FolderBases.{folder_base_told, folder_images}
 use Rattle.bisync_run.proofs.OwnLocks.{own_told as own_lock_told}
 use Rattle.bisync_run.proofs.OrdinaryTold.{ordinary_told, resilient_images, run_answers_told, run_images, run_tells_last}
@@ -116,7 +117,7 @@ returns-clause-entry g c work un =
     (c.run_to_close-end.ensures.entry work (ap is_unlocked (sym told) ∙ un))
 
 pub returns-clause-entered : goal.returns-clause-entered
-returns-clause-entered g c work later = c.run_to_close-end.ensures.entered work (held_told c.run_to_close-end.result c.tell_end.result c.tell_end.ensures.end later)
+returns-clause-entered g c work = ⊎_elim (λ early. inl (before_told c.run_to_close-end.result c.tell_end.result c.tell_end.ensures.end early.0, early.1)) inr (c.run_to_close-end.ensures.entered work)
 
 pub returns-clause-told : goal.returns-clause-told
 returns-clause-told g c = last_told (by_side g.A.Remote.tells g.B.Remote.tells) (by_side (g.A.Remote.state c.args.one.now) (g.B.Remote.state c.args.two.now)) c.run_to_close-end.result c.tell_end.result c.tell_end.ensures.end c.run_to_close-end.ensures.told
@@ -331,11 +332,11 @@ returns-clause-resync_in_sync g c mode is one two work dry good =
 
 pub returns-clause-own_lock : goal.returns-clause-own_lock
 returns-clause-own_lock g c work =
-    own_lock_told c.args.opts.now _ _ _ c.run_to_close-end.result c.tell_end.result _ _ (before_told c.run_to_close-end.result c.tell_end.result c.tell_end.ensures.end) (c.run_to_close-end.ensures.own_lock work)
+    own_lock_told c.args.opts.now _ _ _ c.run_to_close-end.result c.tell_end.result _ _ c.tell_end.ensures.end (c.run_to_close-end.ensures.own_lock work)
 
 pub returns-clause-unlocked : goal.returns-clause-unlocked
-returns-clause-unlocked g c work un =
-    c.run_to_close-end.ensures.unlocked work (ap is_unlocked (sym (unlocked_told c.run_to_close-end.result c.tell_end.result c.tell_end.ensures.end un)) ∙ un)
+returns-clause-unlocked g c un =
+    c.run_to_close-end.ensures.unlocked (ap is_unlocked (sym (unlocked_told c.run_to_close-end.result c.tell_end.result c.tell_end.ensures.end un)) ∙ un)
 
 pub returns-clause-outcome : goal.returns-clause-outcome
 returns-clause-outcome g c mode is one two known dry good =
@@ -343,7 +344,10 @@ returns-clause-outcome g c mode is one two known dry good =
 
 pub returns-clause-resync_fell : goal.returns-clause-resync_fell
 returns-clause-resync_fell g c mode is work never bad =
-    c.run_to_close-end.ensures.resync_fell mode is work never (bad_told c.run_to_close-end.result c.tell_end.result c.tell_end.ensures.end bad)
+    let f = (g.W.Work.state c.args.work.now).folder in
+    let h = (g.W.Work.state c.run_to_close-end.new.work).folder in
+    resync_fell_told c.args.opts.now c.run_to_close-end.result c.tell_end.result f h (bad_same c.run_to_close-end.result c.tell_end.result c.tell_end.ensures.end bad)
+    (c.run_to_close-end.ensures.resync_fell mode is work never (bad_told c.run_to_close-end.result c.tell_end.result c.tell_end.ensures.end bad))
 
 -- # The numbers of changes
 
