@@ -155,10 +155,6 @@ good_is_held (BadRule line) good = false_true good
 good_is_held (Locked until) good = false_true good
 good_is_held end good = refl
 
-pub held_told : (end last : End) → EndsWith end last → is_before_lock last ≡ false → is_before_lock end ≡ false
-held_told end last (inl same) later = ap is_before_lock (sym same) ∙ later
-held_told end last (inr lost) later = good_is_held end lost.0
-
 pub before_told : (end last : End) → EndsWith end last → is_before_lock end ≡ true → is_before_lock last ≡ true
 before_told end last (inl same) before = ap is_before_lock same ∙ before
 before_told end last (inr lost) before = false_true (sym (good_is_held end lost.0) ∙ before)

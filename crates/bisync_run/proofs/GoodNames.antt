@@ -66,7 +66,7 @@ good_over limit (Kept bytes) below a b = a
 good_over limit (Loose bytes) below a b = a
 
 -- what holds after each of these renames where it holds before it
-abbrev pub Each : (WorkFolder → Type 0) → Renames → Type 0
+abbrev Each : (WorkFolder → Type 0) → Renames → Type 0
 Each P [] = ⊤
 Each P (r ∷ rs) = ((f : WorkFolder) → P f → P (over r.0 r.1 f)) × Each P rs
 
@@ -78,7 +78,7 @@ after_each : (P : WorkFolder → Type 0) (done : Renames) → Each P done → (f
 after_each P [] each f is = is
 after_each P (r ∷ rs) each f is = after_each P rs each.1 (renamed r.0 r.1 f) (subst P (sym (renamed_over r.0 r.1 f)) (each.0 f is))
 
-pub begun_keeps : (P : WorkFolder → Type 0) (renames : Renames) → Each P renames → (f g : WorkFolder) → AreBegun renames f g → P f → P g
+begun_keeps : (P : WorkFolder → Type 0) (renames : Renames) → Each P renames → (f g : WorkFolder) → AreBegun renames f g → P f → P g
 begun_keeps P renames each f g begun is = subst P (sym begun.folder) (after_each P begun.done (first_of P begun.done begun.left (subst (Each P) begun.all each)) f is)
 
 module _ (limit : ℕ) where

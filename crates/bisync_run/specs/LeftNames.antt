@@ -13,8 +13,8 @@ use Rattle.bisync_report.specs.declared.ends.End.{End}
 use Rattle.bisync_report.specs.declared.ends.End.TheVariants.{WorkFault}
 use Rattle.bisync_run.specs.EndKinds.{is_before_lock, lets_fall}
 use Rattle.bisync_run.specs.Entering.{AtMoment, HasSomeRules}
-use Rattle.bisync_run.specs.KeptNames.{StoresRules}
 use Rattle.bisync_run.specs.FolderBases.{TakesNext, compared}
+use Rattle.bisync_run.specs.KeptNames.{StoresRules}
 use Rattle.bisync_run.specs.ResyncRuns.{Matter}
 use Rattle.bisync_run.specs.ResyncWriting.{stored}
 use Rattle.bisync_run.specs.Untouched.{Remotes, AreUntouched}

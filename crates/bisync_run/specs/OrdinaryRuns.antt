@@ -55,8 +55,8 @@ abbrev pub KeepsOrdinaryBaseOf : Opts → Limits → WorkFolder → Remotes → 
 KeepsOrdinaryBaseOf opts limits f start g now =
     (base : Option Base) → IsBase limits.listing f base → IsBase limits.listing g base ⊎ IsMadeNextBy opts limits f start g now
 
--- No side was touched, and no name but the lock and those that fall; or nothing refused the run, and the trees are between those
--- before and those that it is to leave.
+-- No side was touched, and no name but the lock and those that fall; or nothing refused the run, the first of its steps are done
+-- and counted, and the trees are between those before and those that it is to leave.
 abbrev pub LeavesOrdinaryTreesOf : Opts → Limits → WorkFolder → Remotes → Bool → ℤ → End → WorkFolder → Remotes → Type 0
 LeavesOrdinaryTreesOf opts limits f start told moment end g now =
     (AreUntouched start now × KeepsOwn opts end f g)

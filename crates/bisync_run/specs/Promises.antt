@@ -17,7 +17,7 @@ pub use Rattle.bisync_run.specs.Entering.{AtMoment, HasSomeRules, IsEntryEnd, Is
 pub use Rattle.bisync_run.specs.FilterRules.{KnowsRules}
 pub use Rattle.bisync_run.specs.FolderBases.{LeavesFolderBase, LeavesNextInPlace, Writes, compared}
 pub use Rattle.bisync_run.specs.Grounds.{HasGrounds, IsTold}
-pub use Rattle.bisync_run.specs.KeptNames.{KeepsButFallen, KeepsGoodNames}
+pub use Rattle.bisync_run.specs.KeptNames.{KeepsGoodNames, KeepsOwn}
 pub use Rattle.bisync_run.specs.LeftNames.{LeavesBaseSetBack, LeavesOwnLock, MayBeLeft, StaysOrFell, StoresDigestOf}
 pub use Rattle.bisync_run.specs.LockNew.{KeepsLockNew}
 pub use Rattle.bisync_run.specs.Ordinary.{KeepsOrdinaryRest}
