@@ -10,14 +10,14 @@ use Rattle.bisync_report.specs.declared.ends.End.{End}
 use Rattle.bisync_report.specs.declared.ends.End.TheVariants.{Done, Resynced, DryRun, InSync, Demo, Usage, WorkFault, NoFilters, BadRule, Locked, FiltersChanged, BadListing, NeedResync, ListingsDiffer, EmptyPrior, RemoteFault, BadPath, TooMany, CheckAccess, EmptyCurrent, TooManyDeletes, AllChanged, NameTooLong, ListingTooLong, OutOfSync, Moved, SinkFault, LockLeft, FoldersLeft, KeepFault, Checked, NotBuilt, OutOfMemory}
 use Rattle.bisync_run.specs.Counts.{Counts, Ends}
 use Rattle.bisync_run.specs.EndKinds.{is_before_lock}
-use Rattle.bisync_run.specs.FolderBases.{LeavesFolderBase}
-use Rattle.bisync_run.specs.KeptNames.{KeepsGoodNames}
+use Rattle.bisync_run.specs.FolderBases.{LeavesFolderBase, compared}
 use Rattle.bisync_run.specs.LeftNames.{LeavesOwnLock, MayBeLeft}
 use Rattle.bisync_run.specs.OrdinaryRuns.{KeepsOrdinaryBaseOf, KeepsSafe, LeavesOrdinaryBaseOf}
+use Rattle.bisync_run.specs.OwnNames.{HoldsOwnOf}
 use Rattle.bisync_run.specs.ResyncRuns.{LeavesBaseOf}
 use Rattle.bisync_run.specs.Untouched.{Remotes}
 use Rattle.bisync_run.proofs.DoneSteps.{untouched_same}
-use Rattle.bisync_run.proofs.GoodNames.{good_left}
+use Rattle.bisync_run.proofs.OwnNames.{own_left, own_same}
 use Rattle.bisync_run.proofs.SafeRuns.{keeps_safe}
 use Rattle.bisync_run.proofs.ToldEnds.{images, image_keeps}
 use Rattle.bisync_cli.specs.declared.tasks.Task.{Task}
@@ -60,18 +60,18 @@ folder_images_same (Ok (Run opts)) Works limits f start end = λ work settled im
 folder_images_same (Ok NoTask) Works limits f start end = tt
 folder_images_same (Err kind) Works limits f start end = tt
 
--- names of a base that have listings, or nothing, still do
-pub good_names_same : (read : Result Task UsageKind) (Works : Type 0) (limits : Limits) (f : WorkFolder)
-    → OfTask read (λ opts. Works → (left : WorkFolder) → MayBeLeft f f left → KeepsGoodNames limits f left)
-good_names_same (Ok (Run opts)) Works limits f = λ work left may. good_left limits f f left (λ good. good) (λ settled. settled) may
-good_names_same (Ok NoTask) Works limits f = tt
-good_names_same (Err kind) Works limits f = tt
+-- each name of a base of an untouched folder holds what it held
+pub names_same : (read : Result Task UsageKind) (Works : Type 0) (limits : Limits) (f : WorkFolder) (start : Remotes)
+    → OfTask read (λ opts. Works → (left : WorkFolder) → MayBeLeft f f left → HoldsOwnOf opts limits f start left)
+names_same (Ok (Run opts)) Works limits f start = λ work left may. own_left limits.listing (compared opts start) f f left (own_same limits.listing (compared opts start) f) (λ settled. settled) may
+names_same (Ok NoTask) Works limits f start = tt
+names_same (Err kind) Works limits f start = tt
 
 -- what is safe in an untouched folder is safe in its images
 pub safe_same : (read : Result Task UsageKind) (One Two Works : Type 0) (limits : Limits) → limits.listing < 2 ^ 64 → (f : WorkFolder) (start : Remotes)
     → OfTask read (λ opts. opts.resync ≡ None → One → Two → Works → IsSettled f → (image : WorkFolder) → IsImage f image → KeepsSafe opts limits f start image start)
 safe_same (Ok (Run opts)) One Two Works limits small f start = λ none one two work settled image image_is.
-    keeps_safe opts limits small f start false (pos 0) OutOfMemory f image start (λ base was. inl ((image_keeps limits.listing f image settled image_is).base base was)) (inl (untouched_same start, (refl, λ stays. record { rest = refl })))
+    keeps_safe opts limits small f start false (pos 0) OutOfMemory f image start (λ base was. inl ((image_keeps limits.listing f image settled image_is).base base was)) (inl (untouched_same start, inl (record { rest = refl })))
 safe_same (Ok NoTask) One Two Works limits small f start = tt
 safe_same (Err kind) One Two Works limits small f start = tt
 

@@ -9,14 +9,15 @@ use Rattle.bisync_opts.specs.declared.options.Opts.{Opts}
 use Rattle.bisync_report.specs.declared.ends.End.{End}
 use Rattle.bisync_report.specs.declared.ends.End.TheVariants.{WorkFault, NoFilters, BadRule, Locked, OutOfMemory}
 use Rattle.bisync_work.specs.Locks.{ChangesLock}
-use Rattle.bisync_work.specs.Moves.{but_fallen, moved_over}
+use Rattle.bisync_work.specs.Moves.{moved_over}
+use Rattle.bisync_work.specs.Renames.{AreBegun, fall_renames}
 use Rattle.bisync_run.specs.CarryingOut.{AreSetAside}
-use Rattle.bisync_run.specs.Closing.{ClosesWith, Closes, EndsWith, Unlocks, but_fallen_or_lock}
+use Rattle.bisync_run.specs.Closing.{ClosesFall, ClosesWith, Closes, EndsWith, Unlocks}
 use Rattle.bisync_run.specs.Counts.{Counts, Stops}
 use Rattle.bisync_run.specs.EndKinds.{is_good, is_after_good, has_freed, is_before_lock, is_unlocked, lets_fall, falls_at_close, may_have_changed, may_tell_plan}
 use Rattle.bisync_run.specs.FilterRules.{AreRulesOf}
 use Rattle.bisync_run.specs.HeldResyncs.{end_of}
-use Rattle.bisync_run.specs.KeptNames.{KeepsButFallen, KeepsOwn}
+use Rattle.bisync_run.specs.KeptNames.{BeginsFall, KeepsButFallen, KeepsOwn}
 use Rattle.bisync_run.specs.LockNew.{KeepsLockNew}
 use Rattle.bisync_run.specs.ResyncEnds.{IsResyncEnd}
 use Rattle.bisync_run.specs.ResyncRuns.{AreSetAsideBy}
@@ -73,21 +74,27 @@ freed_was_good old mid (Err end) closed well stops same freed =
 
 -- # The folder
 
-pub fallen_same : (f g : WorkFolder) → ChangesLock f g → but_fallen_or_lock g ≡ but_fallen_or_lock f
-fallen_same f g changes = ap but_fallen changes.rest
-
-pub fallen_closed : (f f2 g h : WorkFolder) → ChangesLock f f2 → g ≡ f2 → Closes g h → but_fallen_or_lock h ≡ but_fallen_or_lock f
-fallen_closed f f2 g h changes same closes =
-    ap (λ (w : WorkFolder). record w { lock_new = Absent }) closes.rest ∙ ap but_fallen_or_lock same ∙ fallen_same f f2 changes
-
 -- where nothing but the lock changed before the close
-pub kept_early : (resilient dry_run : Bool) (ended : Result End End) (closed : End) → ClosesWith ended closed → (f f2 g h : WorkFolder) → ChangesLock f f2 → Closes g h
+falls_early : (f f2 g h : WorkFolder) → ChangesLock f f2 → ClosesFall g h → g ≡ f2 → BeginsFall f h
+falls_early f f2 g h changes closes same = record {
+  held = f2;
+  fallen = closes.fallen;
+  before = changes;
+  begun = subst (λ (w : WorkFolder). AreBegun fall_renames w closes.fallen) same closes.begun;
+  after = record { rest = ap (λ (w : WorkFolder). record w { lock_new = Absent }) closes.unlocks.rest };
+}
+
+kept_where : (falls : Bool) (f f2 g h : WorkFolder) → ChangesLock f f2 → ClosesFall g h → (falls ≡ false → Unlocks g h) → g ≡ f2 → KeepsButFallen falls f h
+kept_where true f f2 g h changes closes kept same = inr (refl, falls_early f f2 g h changes closes same)
+kept_where false f f2 g h changes closes kept same = inl (changes_closed f f2 g h changes same (kept refl))
+
+pub kept_early : (resilient dry_run : Bool) (ended : Result End End) (closed : End) → ClosesWith ended closed → (f f2 g h : WorkFolder) → ChangesLock f f2 → ClosesFall g h
     → (falls_at_close resilient dry_run ended ≡ false → Unlocks g h) → g ≡ f2 → KeepsButFallen (lets_fall resilient dry_run closed) f h
 kept_early resilient dry_run ended closed is f f2 g h changes closes kept same =
-    (fallen_closed f f2 g h changes same closes, λ stays. changes_closed f f2 g h changes same (kept (falls_closed resilient dry_run ended closed is stays)))
+    kept_where (lets_fall resilient dry_run closed) f f2 g h changes closes (λ stays. kept (falls_closed resilient dry_run ended closed is stays)) same
 
 pub kept_unlocked : (falls : Bool) (f g : WorkFolder) → ChangesLock f g → KeepsButFallen falls f g
-kept_unlocked falls f g changes = (fallen_same f g changes, λ stays. changes)
+kept_unlocked falls f g changes = inl changes
 
 pub lock_new_closed : (g h : WorkFolder) → Closes g h → KeepsLockNew g h
 lock_new_closed g h closes = record { kept = inl (ap (λ (w : WorkFolder). w.lock_new) closes.rest) }
@@ -136,7 +143,9 @@ unfallen_told resilient dry_run end last (inl same) stays = ap (lets_fall resili
 unfallen_told resilient dry_run end last (inr lost) stays = false_from_ne_true (lets_fall resilient dry_run end) (good_stays resilient dry_run end lost.0)
 
 pub kept_told : (opts : Opts) (end last : End) (f g : WorkFolder) → EndsWith end last → KeepsOwn opts end f g → KeepsOwn opts last f g
-kept_told opts end last f g is kept = (kept.0, λ stays. kept.1 (unfallen_told opts.resilient opts.dry_run end last is stays))
+kept_told opts end last f g (inl same) kept = subst (λ (e : End). KeepsOwn opts e f g) (sym same) kept
+kept_told opts end last f g (inr lost) (inl changes) = inl changes
+kept_told opts end last f g (inr lost) (inr fell) = absurd (good_stays opts.resilient opts.dry_run end lost.0 fell.0)
 
 pub freed_told : (end last : End) → EndsWith end last → has_freed last ≡ true → has_freed end ≡ true
 freed_told end last (inl same) freed = ap has_freed (sym same) ∙ freed

@@ -60,4 +60,4 @@ pub mod FolderBases
 pub mod FallsAsLaws
 pub mod OwnLocks
 pub mod BasesSetBack
-pub mod GoodNames
+pub mod OwnNames

@@ -56,7 +56,7 @@ module _ (opts : Opts) (told : Bool) (moment : ℤ) (IsKept : Type 0) where
   -- of a run that was closed
   closed : (end : End) (f g h : WorkFolder) → HasSomeRules opts.filters f → IsOwnLock opts.max_lock told moment g.lock → (h.lock ≡ g.lock) ⊎ (h.lock ≡ Absent) → LeavesOwnLock opts told moment end f h IsKept
   closed end f g h rules own (inl same) = inr (inl (rules, (own.0, own.1, same ∙ own.2)))
-  closed end f g h rules own (inr gone) = inl gone
+  closed end f g h rules own (inr gone) = inl (rules, gone)
 
   pub own_closed : (next : ℤ) (end : End) (f f2 g h : WorkFolder) → HasSomeRules opts.filters f → (IsTrue told → next ≡ moment)
       → IsOwnLock opts.max_lock told moment f2.lock → KeepsOwnLock opts.max_lock told next f2.lock g.lock → (h.lock ≡ g.lock) ⊎ (h.lock ≡ Absent) → LeavesOwnLock opts told moment end f h IsKept

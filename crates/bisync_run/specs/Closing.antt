@@ -6,8 +6,8 @@ use Rattle.bisync_device.specs.WorkFolder.{Absent, WorkFolder, IsSettled, with_h
 use Rattle.bisync_device.specs.declared.works.WorkName.TheVariants.{Lock}
 use Rattle.bisync_work.specs.declared.bases.Pair.{Pair}
 use Rattle.bisync_work.specs.Base.{Base, HasBaseIn, IsBase, HasNoBase}
-use Rattle.bisync_work.specs.Locks.{but_lock}
 use Rattle.bisync_work.specs.Moves.{but_fallen}
+use Rattle.bisync_work.specs.Renames.{AreBegun, fall_renames}
 use Rattle.bisync_report.specs.declared.ends.End.{End}
 use Rattle.bisync_report.specs.declared.ends.End.TheVariants.{LockLeft, SinkFault}
 use Rattle.bisync_run.specs.EndKinds.{is_good}
@@ -31,13 +31,15 @@ pub record Closes (old new : WorkFolder) : Type 0 where
   pub settled : IsSettled old → IsSettled new
   pub rest : with_held Lock Absent (but_fallen new) ≡ with_held Lock Absent (but_fallen old)
 
--- all but the names that a fall moves, `lock` and `lock-new`
-abbrev pub but_fallen_or_lock : WorkFolder → WorkFolder
-but_fallen_or_lock f = but_lock (but_fallen f)
-
 -- only the lock changed
 pub record Unlocks (old new : WorkFolder) : Type 0 where
   pub rest : with_held Lock Absent new ≡ with_held Lock Absent old
+
+-- the renames of a fall are done, or the first of them or none; and the lock changed
+pub record ClosesFall (old new : WorkFolder) : Type 0 where
+  pub fallen : WorkFolder
+  pub begun : AreBegun fall_renames old fallen
+  pub unlocks : Unlocks fallen new
 
 -- none of the four names of a base is there
 pub record HasNoListings (f : WorkFolder) : Type 0 where

@@ -1,40 +1,37 @@
 -- Which names of its work folder a run keeps.
-use Rattle.std.specs.Prelude.{◌≡◌, ◌⊎◌, ℕ, List, Bool, false, Option, Some, None, ⊤}
+use Rattle.std.specs.Prelude.{◌≡◌, ◌⊎◌, ℕ, List, Bool, true, Option, Some, ⊤}
 use Rattle.bisync_tree.specs.declared.options.Limits.{Limits}
 use Rattle.bisync_filter.specs.declared.rule_lists.Rule.{Rule}
 use Rattle.bisync_device.specs.WorkFolder.{WorkFolder}
 use Rattle.bisync_opts.specs.declared.options.Opts.{Opts}
 use Rattle.bisync_work.specs.declared.bases.Pair.TheVariants.{Old}
-use Rattle.bisync_work.specs.BadNames.{IsFirstBad, base_names}
 use Rattle.bisync_work.specs.Base.{Base, HasBaseIn, IsBase, HasNoBase}
 use Rattle.bisync_work.specs.Locks.{ChangesLock}
 use Rattle.bisync_work.specs.Moves.{IsFallen}
+use Rattle.bisync_work.specs.Renames.{AreBegun, fall_renames}
 use Rattle.bisync_report.specs.declared.ends.End.{End}
 use Rattle.bisync_report.specs.declared.ends.End.TheVariants.{RemoteFault, Moved}
-use Rattle.bisync_run.specs.Closing.{but_fallen_or_lock}
 use Rattle.bisync_run.specs.EndKinds.{lets_fall}
 use Rattle.bisync_run.specs.FilterRules.{AreRulesOf}
 use Rattle.bisync_run.specs.ResyncWriting.{stored}
 
 -- # A run that made no change of its own
 
--- only the names that fall changed, and none but the lock where nothing falls
+-- only the lock changed, and listings fell, or only the first of them did
+pub record BeginsFall (old new : WorkFolder) : Type 0 where
+  pub held : WorkFolder
+  pub fallen : WorkFolder
+  pub before : ChangesLock old held
+  pub begun : AreBegun fall_renames held fallen
+  pub after : ChangesLock fallen new
+
+-- only the lock changed, or listings fell where they may
 abbrev pub KeepsButFallen : Bool → WorkFolder → WorkFolder → Type 0
-KeepsButFallen falls f g = (but_fallen_or_lock g ≡ but_fallen_or_lock f) × (falls ≡ false → ChangesLock f g)
+KeepsButFallen falls f g = ChangesLock f g ⊎ ((falls ≡ true) × BeginsFall f g)
 
 -- so does a run of these options with this end
 abbrev pub KeepsOwn : Opts → End → WorkFolder → WorkFolder → Type 0
 KeepsOwn opts end f g = KeepsButFallen (lets_fall opts.resilient opts.dry_run end) f g
-
--- # The listings of a base
-
--- each name of a base has a listing, or nothing
-abbrev pub HasGoodNames : ℕ → WorkFolder → Type 0
-HasGoodNames limit f = IsFirstBad limit f base_names None
-
--- where each has, each still does
-abbrev pub KeepsGoodNames : Limits → WorkFolder → WorkFolder → Type 0
-KeepsGoodNames limits f g = HasGoodNames limits.listing f → HasGoodNames limits.listing g
 
 -- # The base that an ordinary run set back
 

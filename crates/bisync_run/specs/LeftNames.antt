@@ -53,11 +53,11 @@ abbrev pub MayTakeLock : Opts → Bool → ℤ → End → WorkFolder → WorkFo
 MayTakeLock opts told moment end f g =
     (g ≡ f) ⊎ ((end ≡ WorkFault) × HasSomeRules opts.filters f × AtMoment told moment (λ now. MakesLock (lock_text (expiry_of now opts.max_lock)) f.lock g.lock))
 
--- None is there; or the run's own, once its rules were read; or, of a run that didn't get one, what the calls on it that failed
--- left. Of the latter no other name is another, and what is kept is kept.
+-- Once its rules were read none is there, or the run's own; or, of a run that didn't get one, it is as before or what the calls
+-- on it that failed left. Of the latter no other name is another, and what is kept is kept.
 abbrev pub LeavesOwnLock : Opts → Bool → ℤ → End → WorkFolder → WorkFolder → Type 0 → Type 0
 LeavesOwnLock opts told moment end f g IsKept =
-    (g.lock ≡ Absent)
+    (HasSomeRules opts.filters f × (g.lock ≡ Absent))
     ⊎ ((HasSomeRules opts.filters f × IsOwnLock opts.max_lock told moment g.lock)
     ⊎ ((is_before_lock end ≡ true) × ChangesLock f g × IsKept × MayTakeLock opts told moment end f g))
 

@@ -34,4 +34,5 @@ pub mod Agreement
 pub mod FolderBases
 pub mod LookRuns
 pub mod LeftNames
+pub mod OwnNames
 pub mod Promises

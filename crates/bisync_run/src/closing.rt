@@ -2,13 +2,15 @@
 //! told.
 
 ghost use Rattle.std.specs.Prelude.{◌≡◌, ◌⊎◌, ◌≤◌, ◌++◌, ℕ, List, IsTrue, IsOk, None, true, false};
+ghost use Rattle.bisync_tree.specs.declared.entries.Compare.{Compare};
 ghost use Rattle.bisync_device.specs.Faults.{Rose};
 ghost use Rattle.bisync_device.specs.WorkFolder.{Absent, WorkFolder};
 ghost use Rattle.bisync_work.specs.Moves.{Falls, IsFallen};
+ghost use Rattle.bisync_work.specs.Renames.{AreBegun, fall_renames};
 ghost use Rattle.bisync_report.specs.LastLine.{last_text};
-ghost use Rattle.bisync_run.specs.Closing.{ClosesWith, CountsClose, Closes, Unlocks, HasNoListings, EndsWith};
+ghost use Rattle.bisync_run.specs.Closing.{ClosesWith, CountsClose, Closes, ClosesFall, Unlocks, HasNoListings, EndsWith};
 ghost use Rattle.bisync_run.specs.EndKinds.{is_good as is_good_end, falls_at_close};
-ghost use Rattle.bisync_run.specs.KeptNames.{HasGoodNames};
+ghost use Rattle.bisync_run.specs.OwnNames.{HoldsOwn};
 
 use bisync_device::{Sink, Work};
 use bisync_opts::Opts;
@@ -18,8 +20,9 @@ use bisync_work::{fall, free_lock};
 /// Closes a course that held the lock and ended so: Ok is a good end.
 pub fn close<W: Work>(opts: &Opts, work: &mut W, ended: Result<End, End>) -> End
     ensures end { ClosesWith ended result }
-    ensures good_names { IsTrue W.tells → (limit : ℕ) → HasGoodNames limit (W.state work.old).folder → HasGoodNames limit (W.state work.new).folder }
+    ensures names { IsTrue W.tells → (limit : ℕ) (compare : Compare) (k : WorkFolder) → HoldsOwn limit compare k (W.state work.old).folder → HoldsOwn limit compare k (W.state work.new).folder }
     ensures closes { IsTrue W.tells → Closes (W.state work.old).folder (W.state work.new).folder }
+    ensures fall { IsTrue W.tells → ClosesFall (W.state work.old).folder (W.state work.new).folder }
     ensures kept { IsTrue W.tells → falls_at_close opts.now.resilient opts.now.dry_run ended ≡ false → Unlocks (W.state work.old).folder (W.state work.new).folder }
     ensures fallen { IsTrue W.tells → falls_at_close opts.now.resilient opts.now.dry_run ended ≡ true → (Rose (W.state work.old).faults (W.state work.new).faults → ⊥) → HasNoListings (W.state work.new).folder }
     ensures fell { IsTrue W.tells → falls_at_close opts.now.resilient opts.now.dry_run ended ≡ true → (Rose (W.state work.old).faults (W.state work.new).faults → ⊥) → IsFallen (W.state work.old).folder (W.state work.new).folder }
@@ -44,9 +47,10 @@ pub fn close<W: Work>(opts: &Opts, work: &mut W, ended: Result<End, End>) -> End
 /// Lets the listings fall where the end asks for it, in no dry run and not with `--resilient`. Where a
 /// call fails, the fall ends there.
 fn fall_where<W: Work>(opts: &Opts, work: &mut W, ended: &Result<End, End>)
-    ensures good_names { IsTrue W.tells → (limit : ℕ) → HasGoodNames limit (W.state work.old).folder → HasGoodNames limit (W.state work.new).folder }
+    ensures names { IsTrue W.tells → (limit : ℕ) (compare : Compare) (k : WorkFolder) → HoldsOwn limit compare k (W.state work.old).folder → HoldsOwn limit compare k (W.state work.new).folder }
     ensures stays_fallen { IsTrue W.tells → (f : WorkFolder) → IsFallen f (W.state work.old).folder → IsFallen f (W.state work.new).folder }
     ensures falls { IsTrue W.tells → Falls (W.state work.old).folder (W.state work.new).folder }
+    ensures begun { IsTrue W.tells → AreBegun fall_renames (W.state work.old).folder (W.state work.new).folder }
     ensures kept { falls_at_close opts.now.resilient opts.now.dry_run ended.now ≡ false → work.new ≡ work.old }
     ensures fallen { IsTrue W.tells → falls_at_close opts.now.resilient opts.now.dry_run ended.now ≡ true → (Rose (W.state work.old).faults (W.state work.new).faults → ⊥) → HasNoListings (W.state work.new).folder }
     ensures fell { IsTrue W.tells → falls_at_close opts.now.resilient opts.now.dry_run ended.now ≡ true → (Rose (W.state work.old).faults (W.state work.new).faults → ⊥) → IsFallen (W.state work.old).folder (W.state work.new).folder }

@@ -17,12 +17,13 @@ ghost use Rattle.bisync_run.specs.EndKinds.{is_good, is_unlocked, may_have_chang
 ghost use Rattle.bisync_run.specs.FolderBases.{LeavesHeldBase, LeavesNextInPlace, Writes};
 ghost use Rattle.bisync_run.specs.Grounds.{HasGrounds, IsTold};
 ghost use Rattle.bisync_run.specs.HeldResyncs.{end_of, IsGoodEndOf, TellsPlan};
-ghost use Rattle.bisync_run.specs.KeptNames.{IsSideEnd, KeepsGoodNames};
+ghost use Rattle.bisync_run.specs.KeptNames.{IsSideEnd};
 ghost use Rattle.bisync_run.specs.LeftNames.{FallsAs, FellWith, KeepsOwnLock, LeavesBaseSetBack, StoresDigest};
 ghost use Rattle.bisync_run.specs.LockNew.{KeepsLockNew};
 ghost use Rattle.bisync_run.specs.Ordinary.{but_ordinary, IsOrdinaryDone, IsGoodOrdinaryEnd, KeepsBaseOrMakesNext, LeavesOrdinaryTrees, TellsCourse};
 ghost use Rattle.bisync_run.specs.OrdinaryEnds.{IsOrdinaryEnd};
 ghost use Rattle.bisync_run.specs.OrdinaryRefusals.{AnswersOrdinary, HasNoOrdinaryRefusal};
+ghost use Rattle.bisync_run.specs.OwnNames.{HoldsOwn};
 ghost use Rattle.bisync_run.specs.ResyncEnds.{IsResyncEnd};
 ghost use Rattle.bisync_run.specs.ResyncRefusals.{AnswersResync, HasNoResyncRefusal};
 ghost use Rattle.bisync_run.specs.Resyncs.{HasOutcome, IsResynced, LeavesMix, LeavesBase, LeavesTrees};
@@ -95,7 +96,7 @@ pub fn held<A: Remote, B: Remote, W: Work, C: Clock, S: Sink>(
     ensures own_lock { IsTrue W.tells → KeepsOwnLock opts.now.max_lock C.tells (C.moment clock.old) (W.state work.old).folder.lock (W.state work.new).folder.lock }
     ensures digest_late { (mode : Prefer) → opts.now.resync ≡ Some mode → IsTrue W.tells → StoresDigest limits.now (compare_in opts.now.compare (A.state one.old).window (B.state two.old).window) entered.now.digest (W.state work.old).folder (W.state work.new).folder }
     ensures set_back { opts.now.resync ≡ None → IsTrue A.tells → IsTrue B.tells → IsTrue W.tells → LeavesBaseSetBack limits.now (compare_in opts.now.compare (A.state one.old).window (B.state two.old).window) (W.state work.old).folder (by_side (A.state one.old) (B.state two.old)) (W.state work.new).folder (by_side (A.state one.new) (B.state two.new)) }
-    ensures good_names { IsTrue W.tells → KeepsGoodNames limits.now (W.state work.old).folder (W.state work.new).folder }
+    ensures names { IsTrue W.tells → HoldsOwn limits.now.listing (compare_in opts.now.compare (A.state one.old).window (B.state two.old).window) (W.state work.old).folder (W.state work.new).folder }
     ensures folder_next { IsTrue W.tells → Writes opts.now → OnOk result (LeavesNextInPlace opts.now limits.now (W.state work.old).folder (by_side (A.state one.old) (B.state two.old)) (W.state work.new).folder) }
     ensures settled { IsTrue W.tells → IsSettled (W.state work.old).folder → IsSettled (W.state work.new).folder }
     ensures rest { IsTrue W.tells → but_carried (W.state work.new).folder ≡ but_carried (W.state work.old).folder }

@@ -10,6 +10,7 @@ mod held;
 mod look_alone;
 mod looking;
 mod looks;
+mod name_laws;
 mod ordinary;
 mod ordinary_changes;
 mod ordinary_looks;
@@ -29,6 +30,7 @@ mod tests;
 pub use agreement_laws::agreeing_bases_stay_in_sync;
 pub use look_alone::look;
 pub use looks::Look;
+pub use name_laws::good_names_stay_good;
 pub use refusal_laws::{
     all_refusals_are_exclusive, resync_refusals_are_exclusive, run_refusals_are_exclusive,
 };

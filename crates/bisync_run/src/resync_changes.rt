@@ -6,17 +6,19 @@ ghost use Rattle.bisync_model.specs.Trees.{by_side};
 ghost use Rattle.bisync_model.specs.Changes.{changes_of};
 ghost use Rattle.bisync_plan.specs.Plans.{AreWritable, header_of};
 ghost use Rattle.bisync_device.specs.Faults.{Rose};
-ghost use Rattle.bisync_device.specs.WorkFolder.{IsSettled};
+ghost use Rattle.bisync_device.specs.WorkFolder.{WorkFolder, IsSettled};
 ghost use Rattle.bisync_transfer.specs.StepTrees.{AreDone};
 ghost use Rattle.bisync_work.specs.Base.{Base, IsBase, HasNoBase};
 ghost use Rattle.bisync_work.specs.Moves.{IsFallen};
+ghost use Rattle.bisync_work.specs.Stamps.{IsNewStamp};
 ghost use Rattle.bisync_run.specs.CarryingOut.{AreWithin, LeavesOneBase, LosesOrNext, but_carried, AreCarriedOut};
 ghost use Rattle.bisync_run.specs.CountedChanges.{HasCounted};
 ghost use Rattle.bisync_run.specs.Counts.{counts, HasCauses};
 ghost use Rattle.bisync_run.specs.EndKinds.{may_have_switched_after};
-ghost use Rattle.bisync_run.specs.KeptNames.{HasGoodNames, IsSideEnd};
+ghost use Rattle.bisync_run.specs.KeptNames.{IsSideEnd};
 ghost use Rattle.bisync_run.specs.LeftNames.{FallsAs, FellWith, KeepsOwnLock};
 ghost use Rattle.bisync_run.specs.LockNew.{KeepsLockNew};
+ghost use Rattle.bisync_run.specs.OwnNames.{HoldsOwn};
 ghost use Rattle.bisync_run.specs.ResyncWriting.{next_base, stored};
 ghost use Rattle.bisync_run.specs.Stepping.{IsPartDone, FindsAll, FindsTold, IsStepEnd, MovedDiffers, MovedIsRead};
 
@@ -54,7 +56,8 @@ pub fn carry_out<A: Remote, B: Remote, W: Work, C: Clock>(
     ensures fell { IsTrue W.tells → (Rose (W.state work.old).faults (W.state work.new).faults → ⊥) → IfErr result (λ _. FellWith digest.now (W.state work.old).folder (W.state work.new).folder) }
     ensures fell_before { IsTrue W.tells → IfErr result (λ end. IsSideEnd end → FellWith digest.now (W.state work.old).folder (W.state work.new).folder) }
     ensures own_lock { IsTrue W.tells → KeepsOwnLock renewal.max_lock C.tells (C.moment clock.old) (W.state work.old).folder.lock (W.state work.new).folder.lock }
-    ensures good_names { IsTrue W.tells → (limit : ℕ) → AreWithin limit prepared → HasGoodNames limit (W.state work.old).folder → HasGoodNames limit (W.state work.new).folder }
+    ensures names { IsTrue W.tells → (limit : ℕ) (k : WorkFolder) → AreWithin limit prepared → IsNewStamp limit k prepared.stamp
+        → HoldsOwn limit prepared.compare k (W.state work.old).folder → HoldsOwn limit prepared.compare k (W.state work.new).folder }
     ensures digest_late { IsTrue W.tells → (limit : ℕ) → limit < 2 ^ 64 → AreWithin limit prepared → (base : Option Base) → IsBase limit (W.state work.old).folder base
         → (IsBase limit (W.state work.new).folder base × ((W.state work.new).folder.filters_md5 ≡ (W.state work.old).folder.filters_md5))
         ⊎ (HasNoBase limit (W.state work.new).folder ⊎ (IsBase limit (W.state work.new).folder (Some (next_base prepared)) × ((W.state work.new).folder.filters_md5 ≡ stored digest.now (W.state work.old).folder.filters_md5))) }

@@ -4,7 +4,7 @@ use Rattle.bisync_model.specs.Trees.{by_side}
 use Rattle.bisync_run.proofs.FallsAsLaws.{keeps_tree_same}
 use Rattle.bisync_run.proofs.BlockedFolders.{blocked_same}
 use Rattle.bisync_cli.specs.Tasks.{task_in}
-use Rattle.bisync_cli.proofs.Runs.{of_run, folder_images_same, good_names_same, images_same, run_images_same, kept_images_same, safe_same, own_lock_same, ends_run}
+use Rattle.bisync_cli.proofs.Runs.{of_run, folder_images_same, names_same, images_same, run_images_same, kept_images_same, safe_same, own_lock_same, ends_run}
 use Rattle.bisync_cli.proofs.top.bisync_main.Goals as goal
 
 pub returns-in-Err-OutOfMemory-clause-images : goal.returns-in-Err-OutOfMemory-clause-images
@@ -191,11 +191,11 @@ returns-clause-own_lock g c = of_run _ _ _ _ c.in-Ok-Run.ensures.read.ok c.in-Ok
 pub returns-clause-digest_late : goal.returns-clause-digest_late
 returns-clause-digest_late g c = of_run _ _ _ _ c.in-Ok-Run.ensures.read.ok c.in-Ok-Run.field-0-is c.run-end.ensures.digest_late
 
-pub returns-in-Err-OutOfMemory-clause-good_names : goal.returns-in-Err-OutOfMemory-clause-good_names
-returns-in-Err-OutOfMemory-clause-good_names g c = good_names_same (task_in c.args.words.now) _ REAL (g.W.Work.state c.args.work.now).folder
+pub returns-in-Err-OutOfMemory-clause-names : goal.returns-in-Err-OutOfMemory-clause-names
+returns-in-Err-OutOfMemory-clause-names g c = names_same (task_in c.args.words.now) _ REAL (g.W.Work.state c.args.work.now).folder (by_side (g.A.Remote.state c.args.one.now) (g.B.Remote.state c.args.two.now))
 
-pub returns-clause-good_names : goal.returns-clause-good_names
-returns-clause-good_names g c = of_run _ _ _ _ c.in-Ok-Run.ensures.read.ok c.in-Ok-Run.field-0-is c.run-end.ensures.good_names
+pub returns-clause-names : goal.returns-clause-names
+returns-clause-names g c = of_run _ _ _ _ c.in-Ok-Run.ensures.read.ok c.in-Ok-Run.field-0-is c.run-end.ensures.names
 
 pub returns-clause-set_back : goal.returns-clause-set_back
 returns-clause-set_back g c = of_run _ _ _ _ c.in-Ok-Run.ensures.read.ok c.in-Ok-Run.field-0-is c.run-end.ensures.set_back

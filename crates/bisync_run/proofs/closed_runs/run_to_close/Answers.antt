@@ -15,19 +15,19 @@ use Rattle.bisync_run.proofs.BeginningLaws.{begins_before, begins_closed, well_b
 use Rattle.bisync_run.proofs.AnswersBefore.{none_before, answers_before}
 use Rattle.bisync_run.proofs.Closed.{base_closed, base_unlocked, done_closed, done_unlocked}
 use Rattle.bisync_run.proofs.ClosedEnds.{on_ok, falls_ok, falls_dry, changes_closed, early_closed, answers_closed, numbers_closed, tells_closed, tells_unlocked as tells_unlocked_resync}
-use Rattle.bisync_run.proofs.ClosedKinds.{no_rise_last, no_rise_mid, falls_closed, fell_closed, quiet_closed, own_closed, locked_closed, freed_was_good, fallen_same, fallen_closed, kept_early, kept_unlocked, lock_new_closed, no_digest_closed, aside_closed}
+use Rattle.bisync_run.proofs.ClosedKinds.{no_rise_last, no_rise_mid, falls_closed, fell_closed, quiet_closed, own_closed, locked_closed, freed_was_good, kept_early, kept_unlocked, lock_new_closed, no_digest_closed, aside_closed}
 use Rattle.bisync_run.proofs.CoursesBefore.{run_answers_before, unrefused_before}
 use Rattle.bisync_run.proofs.DoneSteps.{untouched_same}
 use Rattle.bisync_run.proofs.EndCases.{false_true, good_is_after_good}
 use Rattle.bisync_run.proofs.EndKindLaws.{unlocked_is_own, unlocked_not_after_good, unlocked_fell, freed_is_after_good}
 use Rattle.bisync_run.proofs.FallsAsLaws.{fell_late, keeps_tree_same, resync_fell, where_it_falls}
 use Rattle.bisync_run.proofs.FolderBases.{folder_base_closed, folder_base_unlocked, folder_next_closed}
-use Rattle.bisync_run.proofs.GoodNames.{locked_good}
 use Rattle.bisync_run.proofs.LockNewLaws.{lock_new_twice, lock_new_same}
 use Rattle.bisync_run.proofs.LockedFolders.{base_past}
 use Rattle.bisync_run.proofs.OrdinaryClosed.{base_kept, falls_resilient, rest_closed, rest_locked, run_base_closed, run_done_closed, way_before}
 use Rattle.bisync_run.proofs.OrdinaryEndsClosed.{good_before, ordinary_closed, run_answers_closed, run_tells_closed, tells_unlocked, unlocked_is_ordinary}
 use Rattle.bisync_run.proofs.OwnLocks.{own_closed as own_lock_closed}
+use Rattle.bisync_run.proofs.OwnNames.{locked_own, own_before, own_same}
 use Rattle.bisync_run.proofs.RunEnds.{after_good_was_ok, caused_closed}
 use Rattle.bisync_run.proofs.ToldGrounds.{unlocked_told, closed_told}
 use Rattle.bisync_run.proofs.CloseLaws.{fell_before}
@@ -50,9 +50,6 @@ returns-in-Err-clause-set_aside g c mode mode_is work dry good = absurd (unlocke
 
 pub returns-in-Err-clause-only : goal.returns-in-Err-clause-only
 returns-in-Err-clause-only g c mode mode_is = unlocked_is_own c.args.opts.now c.in-Err.end c.in-Err.ensures.kind
-
-pub returns-in-Err-clause-only_fallen : goal.returns-in-Err-clause-only_fallen
-returns-in-Err-clause-only_fallen g c work early = fallen_same (g.W.Work.state c.args.work.now).folder (g.W.Work.state c.enter.new.work).folder (c.in-Err.ensures.others work)
 
 pub returns-in-Err-clause-fallen : goal.returns-in-Err-clause-fallen
 returns-in-Err-clause-fallen g c work fell never =
@@ -121,7 +118,7 @@ returns-in-Err-clause-trees g c mode mode_is one two work = inl (untouched_same 
 pub returns-clause-trees : goal.returns-clause-trees
 returns-clause-trees g c mode mode_is one two work =
     let f = (g.W.Work.state c.args.work.now).folder in let m : Matter c.args.opts.now f _ = record { rules = c.in-Ok.entered.rules; digest = c.in-Ok.entered.digest; are = c.in-Ok.ensures.rules (inl work) } in
-    ⊎_elim (λ early. inl (early.0, kept_early c.args.opts.now.resilient c.args.opts.now.dry_run c.held-ended.result c.close.result c.close.ensures.end f _ _ _ (c.in-Ok.ensures.others work) (c.close.ensures.closes work) (c.close.ensures.kept work) early.1)) (λ some. inr (c.in-Ok.ensures.free work, (m, none_before mode c.args.limits.now f _ (c.in-Ok.ensures.others work) _ some.0, some.1, some.2)))
+    ⊎_elim (λ early. inl (early.0, kept_early c.args.opts.now.resilient c.args.opts.now.dry_run c.held-ended.result c.close.result c.close.ensures.end f _ _ _ (c.in-Ok.ensures.others work) (c.close.ensures.fall work) (c.close.ensures.kept work) early.1)) (λ some. inr (c.in-Ok.ensures.free work, (m, none_before mode c.args.limits.now f _ (c.in-Ok.ensures.others work) _ some.0, some.1, some.2)))
     (c.held-ended.ensures.trees mode mode_is one two work)
 
 pub returns-clause-untouched_one : goal.returns-clause-untouched_one
@@ -146,12 +143,9 @@ pub returns-clause-only : goal.returns-clause-only
 returns-clause-only g c mode mode_is = own_closed c.args.opts.now c.held-ended.result c.close.result c.close.ensures.end (c.held-ended.ensures.kind mode mode_is)
 
 pub returns-clause-kept : goal.returns-clause-kept
-returns-clause-kept g c work early stays =
-    changes_closed _ _ _ _ (c.in-Ok.ensures.others work) (c.held-ended.ensures.early (early_closed c.held-ended.result c.close.result c.close.ensures.end early) work)
-    (c.close.ensures.kept work (falls_closed c.args.opts.now.resilient c.args.opts.now.dry_run c.held-ended.result c.close.result c.close.ensures.end stays))
-
-pub returns-clause-only_fallen : goal.returns-clause-only_fallen
-returns-clause-only_fallen g c work early = fallen_closed _ _ _ _ (c.in-Ok.ensures.others work) (c.held-ended.ensures.early (early_closed c.held-ended.result c.close.result c.close.ensures.end early) work) (c.close.ensures.closes work)
+returns-clause-kept g c work early =
+    kept_early c.args.opts.now.resilient c.args.opts.now.dry_run c.held-ended.result c.close.result c.close.ensures.end _ _ (g.W.Work.state c.held-ended.new.work).folder _ (c.in-Ok.ensures.others work) (c.close.ensures.fall work) (c.close.ensures.kept work)
+    (c.held-ended.ensures.early (early_closed c.held-ended.result c.close.result c.close.ensures.end early) work)
 
 pub returns-clause-fallen : goal.returns-clause-fallen
 returns-clause-fallen g c work fell never =
@@ -202,7 +196,7 @@ returns-clause-report g c mode mode_is one two sink work =
     let a = g.A.Remote.state c.args.one.now in let b = g.B.Remote.state c.args.two.now in let f = (g.W.Work.state c.args.work.now).folder in let m : Matter c.args.opts.now f (by_side a b) = record { rules = c.in-Ok.entered.rules; digest = c.in-Ok.entered.digest; are = c.in-Ok.ensures.rules work } in
     tells_closed mode c.args.opts.now c.args.limits.now g.W.Work.tells f (g.W.Work.state c.close.new.work).folder (by_side a b) (by_side (g.A.Remote.state c.held-ended.new.one) (g.B.Remote.state c.held-ended.new.two)) m _ _ _
     (g.S.Sink.state c.args.sink.now).bytes (g.S.Sink.state c.held-ended.new.sink).bytes _ _ c.held-ended.result c.close.result
-    c.held-ended.ensures.well c.held-ended.ensures.causes.fault c.close.ensures.end (λ kept t. kept_early c.args.opts.now.resilient c.args.opts.now.dry_run c.held-ended.result c.close.result c.close.ensures.end f _ _ _ (c.in-Ok.ensures.others t) (c.close.ensures.closes t) (c.close.ensures.kept t) (kept t)) (λ ok t. none_before mode c.args.limits.now f _ (c.in-Ok.ensures.others t) _ (ok t))
+    c.held-ended.ensures.well c.held-ended.ensures.causes.fault c.close.ensures.end (λ kept t. kept_early c.args.opts.now.resilient c.args.opts.now.dry_run c.held-ended.result c.close.result c.close.ensures.end f _ _ _ (c.in-Ok.ensures.others t) (c.close.ensures.fall t) (c.close.ensures.kept t) (kept t)) (λ ok t. none_before mode c.args.limits.now f _ (c.in-Ok.ensures.others t) _ (ok t))
     (λ end same fell t. fell_late c.args.opts.now c.in-Ok.entered.rules c.in-Ok.entered.digest end c.close.result f (g.W.Work.state c.enter.new.work).folder (g.W.Work.state c.held-ended.new.work).folder _ (c.in-Ok.ensures.rules (inl t)) (c.in-Ok.ensures.others t) (c.close.ensures.closes t) same (fell t) (c.close.ensures.stays_fallen t)) (c.held-ended.ensures.report mode mode_is one two sink)
 
 -- # An ordinary run
@@ -290,7 +284,7 @@ returns-clause-resilient_base g c none one two work stays base is =
 pub returns-clause-run_trees : goal.returns-clause-run_trees
 returns-clause-run_trees g c none one two work =
     let f = (g.W.Work.state c.args.work.now).folder in let m : Matter c.args.opts.now f _ = record { rules = c.in-Ok.entered.rules; digest = c.in-Ok.entered.digest; are = c.in-Ok.ensures.rules (inl work) } in
-    ⊎_elim (λ early. inl (early.0, kept_early c.args.opts.now.resilient c.args.opts.now.dry_run c.held-ended.result c.close.result c.close.ensures.end f _ _ _ (c.in-Ok.ensures.others work) (c.close.ensures.closes work) (c.close.ensures.kept work) early.1))
+    ⊎_elim (λ early. inl (early.0, kept_early c.args.opts.now.resilient c.args.opts.now.dry_run c.held-ended.result c.close.result c.close.ensures.end f _ _ _ (c.in-Ok.ensures.others work) (c.close.ensures.fall work) (c.close.ensures.kept work) early.1))
     (λ way. inr (c.in-Ok.ensures.free work, (m, way_before c.args.opts.now c.args.limits.now _ c.in-Ok.entered.digest _ f _ (c.in-Ok.ensures.others work) way)))
     (c.held-ended.ensures.run_trees none one two work)
 
@@ -307,19 +301,19 @@ returns-clause-run_report g c none one two work sink =
     let f = (g.W.Work.state c.args.work.now).folder in let m : Matter c.args.opts.now f _ = record { rules = c.in-Ok.entered.rules; digest = c.in-Ok.entered.digest; are = c.in-Ok.ensures.rules (inl work) } in
     run_tells_closed c.args.opts.now c.args.limits.now f _ _ _ (c.in-Ok.ensures.others work) (c.close.ensures.closes work) _ _ m
     (g.S.Sink.state c.args.sink.now).bytes (g.S.Sink.state c.held-ended.new.sink).bytes _ _ c.held-ended.result c.close.result
-    c.held-ended.ensures.well c.held-ended.ensures.causes.fault c.close.ensures.end (kept_early c.args.opts.now.resilient c.args.opts.now.dry_run c.held-ended.result c.close.result c.close.ensures.end f _ _ _ (c.in-Ok.ensures.others work) (c.close.ensures.closes work) (c.close.ensures.kept work)) (c.held-ended.ensures.run_report none one two work sink)
+    c.held-ended.ensures.well c.held-ended.ensures.causes.fault c.close.ensures.end (kept_early c.args.opts.now.resilient c.args.opts.now.dry_run c.held-ended.result c.close.result c.close.ensures.end f _ _ _ (c.in-Ok.ensures.others work) (c.close.ensures.fall work) (c.close.ensures.kept work)) (c.held-ended.ensures.run_report none one two work sink)
 
 pub returns-in-Err-clause-only_base : goal.returns-in-Err-clause-only_base
 returns-in-Err-clause-only_base g c none only work = kept_unlocked _ _ _ (c.in-Err.ensures.others work)
 
 pub returns-clause-only_base : goal.returns-clause-only_base
-returns-clause-only_base g c none only work = kept_early _ _ c.held-ended.result c.close.result c.close.ensures.end _ _ _ _ (c.in-Ok.ensures.others work) (c.close.ensures.closes work) (c.close.ensures.kept work) (c.held-ended.ensures.compares none only work)
+returns-clause-only_base g c none only work = kept_early _ _ c.held-ended.result c.close.result c.close.ensures.end _ _ _ _ (c.in-Ok.ensures.others work) (c.close.ensures.fall work) (c.close.ensures.kept work) (c.held-ended.ensures.compares none only work)
 
 pub returns-clause-blocked : goal.returns-clause-blocked
 returns-clause-blocked g c work = blocked_nowhere (g.W.Work.state c.args.work.now).folder _ _ _ (c.in-Ok.ensures.free work)
 
 pub returns-in-Err-clause-entered : goal.returns-in-Err-clause-entered
-returns-in-Err-clause-entered g c work = inl (c.in-Err.ensures.only, c.in-Err.ensures.others work)
+returns-in-Err-clause-entered g c work = inl (c.in-Err.ensures.only, c.in-Err.ensures.others work, keeps_tree_same g.A.Remote.tells (g.A.Remote.state c.args.one.now), keeps_tree_same g.B.Remote.tells (g.B.Remote.state c.args.two.now))
 
 pub returns-clause-entered : goal.returns-clause-entered
 returns-clause-entered g c work = inr (c.in-Ok.ensures.free work, (c.in-Ok.entered.rules, c.in-Ok.entered.digest, c.in-Ok.ensures.rules (inl work)))
@@ -398,11 +392,11 @@ returns-clause-set_back g c none one two work =
     old_closed c.args.limits.now _ (g.W.Work.state c.args.work.now).folder (g.W.Work.state c.enter.new.work).folder (g.W.Work.state c.held-ended.new.work).folder (g.W.Work.state c.close.new.work).folder (c.in-Ok.ensures.others work) (c.close.ensures.closes work) (by_side (g.A.Remote.state c.args.one.now) (g.B.Remote.state c.args.two.now)) (by_side (g.A.Remote.state c.held-ended.new.one) (g.B.Remote.state c.held-ended.new.two))
     (c.held-ended.ensures.set_back none one two work)
 
-pub returns-in-Err-clause-good_names : goal.returns-in-Err-clause-good_names
-returns-in-Err-clause-good_names g c work good = locked_good c.args.limits.now.listing _ _ (c.in-Err.ensures.others work) good
+pub returns-in-Err-clause-names : goal.returns-in-Err-clause-names
+returns-in-Err-clause-names g c work = locked_own c.args.limits.now.listing _ _ _ _ (c.in-Err.ensures.others work) (own_same c.args.limits.now.listing _ (g.W.Work.state c.args.work.now).folder)
 
-pub returns-clause-good_names : goal.returns-clause-good_names
-returns-clause-good_names g c work good = c.close.ensures.good_names work c.args.limits.now.listing (c.held-ended.ensures.good_names work (locked_good c.args.limits.now.listing _ _ (c.in-Ok.ensures.others work) good))
+pub returns-clause-names : goal.returns-clause-names
+returns-clause-names g c work = c.close.ensures.names work c.args.limits.now.listing _ _ (own_before c.args.limits.now.listing _ _ _ (c.in-Ok.ensures.others work) _ (c.held-ended.ensures.names work))
 
 pub returns-in-Err-clause-unlocked : goal.returns-in-Err-clause-unlocked
 returns-in-Err-clause-unlocked g c un = (λ work. c.in-Err.ensures.kept work (λ is. false_true (sym (ap is_unlocked is) ∙ un)), c.in-Err.ensures.steady un)

@@ -13,7 +13,7 @@ use Rattle.bisync_run.proofs.DoneSteps.{looked_told, untouched_same}
 use Rattle.bisync_run.proofs.EndCases.{false_true, step_may_change, told_device}
 use Rattle.bisync_run.proofs.FallsAsLaws.{falls_as_held}
 use Rattle.bisync_run.proofs.FolderBases.{kept_or_next, next_in_place, ready_to}
-use Rattle.bisync_run.proofs.GoodNames.{kept_good, ordinary_good}
+use Rattle.bisync_run.proofs.OwnNames.{kept_own, ordinary_own}
 use Rattle.bisync_run.proofs.HeldLaws.{untouched, same_windows, are_within}
 use Rattle.bisync_run.proofs.OrdinaryCauses.{done_same, lock_new_held, since, stopped, sunk, told_same, unsunk, well, work_same}
 use Rattle.bisync_run.proofs.OrdinaryEndCases.{compared_causes, compared_tells, device_answers, not_only, only_is, start_answers, step_kind}
@@ -384,17 +384,17 @@ returns-clause-set_back g c one two work =
 pub returns-in-Ok-carry_out_ordinary-clause-counted : goal.returns-in-Ok-carry_out_ordinary-clause-counted
 returns-in-Ok-carry_out_ordinary-clause-counted g c = counted_since g.A.Remote.tells g.B.Remote.tells (g.A.Remote.state c.args.one.now) (g.B.Remote.state c.args.two.now) (g.A.Remote.state c.look_ordinary.new.one) (g.B.Remote.state c.look_ordinary.new.two) c.in-Ok-look_ordinary.ensures.one.tree c.in-Ok-look_ordinary.ensures.two.tree (by_side (g.A.Remote.state c.carry_out_ordinary.new.one) (g.B.Remote.state c.carry_out_ordinary.new.two)) c.in-Ok-carry_out_ordinary.changes.one c.in-Ok-carry_out_ordinary.changes.two c.in-Ok-carry_out_ordinary.ensures.counted
 
-pub returns-in-Ok-carry_out_ordinary-clause-good_names : goal.returns-in-Ok-carry_out_ordinary-clause-good_names
-returns-in-Ok-carry_out_ordinary-clause-good_names g c work =
-    ordinary_good c.args.opts.now c.args.limits.now _ c.args.entered.now.digest (g.W.Work.state c.args.work.now).folder (g.W.Work.state c.start.new.work).folder (c.in-Ok.ensures.folder work) c.in-Ok.started (c.in-Ok.ensures.starts work) c.in-Ok-look_ordinary.look
+pub returns-in-Ok-carry_out_ordinary-clause-names : goal.returns-in-Ok-carry_out_ordinary-clause-names
+returns-in-Ok-carry_out_ordinary-clause-names g c work =
+    ordinary_own c.args.opts.now c.args.limits.now _ c.args.entered.now.digest (g.W.Work.state c.args.work.now).folder (g.W.Work.state c.start.new.work).folder (c.in-Ok.ensures.folder work) c.in-Ok.started (c.in-Ok.ensures.starts work) c.in-Ok-look_ordinary.look
     c.in-Ok-look_ordinary.ensures.compare (omega arith) (are_within c.args.limits.now (prepared_of c.in-Ok.started.stamp c.in-Ok-look_ordinary.look) c.in-Ok-look_ordinary.ensures.within1 c.in-Ok-look_ordinary.ensures.within2)
-    (g.W.Work.state c.carry_out_ordinary.new.work).folder (c.in-Ok-carry_out_ordinary.ensures.good_names work)
+    (g.W.Work.state c.carry_out_ordinary.new.work).folder (c.in-Ok-carry_out_ordinary.ensures.names work)
 
-pub returns-clause-good_names : goal.returns-clause-good_names
-returns-clause-good_names g c work =
-    ordinary_good c.args.opts.now c.args.limits.now _ c.args.entered.now.digest (g.W.Work.state c.args.work.now).folder (g.W.Work.state c.start.new.work).folder (c.in-Ok.ensures.folder work) c.in-Ok.started (c.in-Ok.ensures.starts work) c.in-Ok-look_ordinary.look
+pub returns-clause-names : goal.returns-clause-names
+returns-clause-names g c work =
+    ordinary_own c.args.opts.now c.args.limits.now _ c.args.entered.now.digest (g.W.Work.state c.args.work.now).folder (g.W.Work.state c.start.new.work).folder (c.in-Ok.ensures.folder work) c.in-Ok.started (c.in-Ok.ensures.starts work) c.in-Ok-look_ordinary.look
     c.in-Ok-look_ordinary.ensures.compare (omega arith) (are_within c.args.limits.now (prepared_of c.in-Ok.started.stamp c.in-Ok-look_ordinary.look) c.in-Ok-look_ordinary.ensures.within1 c.in-Ok-look_ordinary.ensures.within2)
-    (g.W.Work.state c.carry_out_ordinary.new.work).folder (c.in-Err-carry_out_ordinary.ensures.good_names work)
+    (g.W.Work.state c.carry_out_ordinary.new.work).folder (c.in-Err-carry_out_ordinary.ensures.names work)
 
 pub returns-in_default-clause-set_back : goal.returns-in_default-clause-set_back
 returns-in_default-clause-set_back g c one two work before is = inl (untouched _ _ _ _ (c.in-Ok-look_ordinary.ensures.one.tree one) (c.in-Ok-look_ordinary.ensures.two.tree two))
@@ -405,23 +405,23 @@ returns-in-Err-plan_lines-clause-set_back g c one two work before is = inl (unto
 pub returns-then-opts-clause-set_back : goal.returns-then-opts-clause-set_back
 returns-then-opts-clause-set_back g c one two work before is = inl (untouched _ _ _ _ (c.in-Ok-look_ordinary.ensures.one.tree one) (c.in-Ok-look_ordinary.ensures.two.tree two))
 
-pub returns-in-Err-clause-good_names : goal.returns-in-Err-clause-good_names
-returns-in-Err-clause-good_names g c work = kept_good c.args.limits.now _ _ (c.start.ensures.folder work)
+pub returns-in-Err-clause-names : goal.returns-in-Err-clause-names
+returns-in-Err-clause-names g c work = kept_own c.args.limits.now _ _ _ (c.start.ensures.folder work)
 
-pub returns-then-is_only-clause-good_names : goal.returns-then-is_only-clause-good_names
-returns-then-is_only-clause-good_names g c work = kept_good c.args.limits.now _ _ (c.start.ensures.folder work)
+pub returns-then-is_only-clause-names : goal.returns-then-is_only-clause-names
+returns-then-is_only-clause-names g c work = kept_own c.args.limits.now _ _ _ (c.start.ensures.folder work)
 
-pub returns-in-Err-look_ordinary-clause-good_names : goal.returns-in-Err-look_ordinary-clause-good_names
-returns-in-Err-look_ordinary-clause-good_names g c work = kept_good c.args.limits.now _ _ (c.start.ensures.folder work)
+pub returns-in-Err-look_ordinary-clause-names : goal.returns-in-Err-look_ordinary-clause-names
+returns-in-Err-look_ordinary-clause-names g c work = kept_own c.args.limits.now _ _ _ (c.start.ensures.folder work)
 
-pub returns-in_default-clause-good_names : goal.returns-in_default-clause-good_names
-returns-in_default-clause-good_names g c work = kept_good c.args.limits.now _ _ (c.start.ensures.folder work)
+pub returns-in_default-clause-names : goal.returns-in_default-clause-names
+returns-in_default-clause-names g c work = kept_own c.args.limits.now _ _ _ (c.start.ensures.folder work)
 
-pub returns-in-Err-plan_lines-clause-good_names : goal.returns-in-Err-plan_lines-clause-good_names
-returns-in-Err-plan_lines-clause-good_names g c work = kept_good c.args.limits.now _ _ (c.start.ensures.folder work)
+pub returns-in-Err-plan_lines-clause-names : goal.returns-in-Err-plan_lines-clause-names
+returns-in-Err-plan_lines-clause-names g c work = kept_own c.args.limits.now _ _ _ (c.start.ensures.folder work)
 
-pub returns-then-opts-clause-good_names : goal.returns-then-opts-clause-good_names
-returns-then-opts-clause-good_names g c work = kept_good c.args.limits.now _ _ (c.start.ensures.folder work)
+pub returns-then-opts-clause-names : goal.returns-then-opts-clause-names
+returns-then-opts-clause-names g c work = kept_own c.args.limits.now _ _ _ (c.start.ensures.folder work)
 
 pub returns-in-Err-clause-trees : goal.returns-in-Err-clause-trees
 returns-in-Err-clause-trees g c one two work = inl (untouched_same (by_side (g.A.Remote.state c.args.one.now) (g.B.Remote.state c.args.two.now)), c.start.ensures.folder work)

@@ -1,12 +1,11 @@
 use Rattle.std.proofs.Common.{inl, inr, ap, refl, ⊎_elim}
 use Rattle.bisync_device.specs.WorkFolder.{WorkFolder}
 use Rattle.bisync_model.specs.Trees.{by_side}
-use Rattle.bisync_run.specs.ResyncWriting.{next_base}
 use Rattle.bisync_run.proofs.BasesSetBack.{old_past, old_or_next}
 use Rattle.bisync_run.proofs.DoneSteps.{untouched_same}
 use Rattle.bisync_run.proofs.EndLaws.{rose_since}
 use Rattle.bisync_run.proofs.FallsAsLaws.{falls_as_twice, lock_falls_as, never_rose}
-use Rattle.bisync_run.proofs.GoodNames.{locked_good, switched_good}
+use Rattle.bisync_run.proofs.OwnNames.{locked_own, switched_own}
 use Rattle.bisync_run.proofs.LockedFolders.{base_past}
 use Rattle.bisync_run.proofs.OwnLocks.{own_around}
 use Rattle.bisync_run.proofs.NextSet.{keeps_or_next, settled_after}
@@ -93,24 +92,22 @@ returns-in-Err-do_steps-clause-stands g c work limit before is side =
 pub returns-clause-stands : goal.returns-clause-stands
 returns-clause-stands g c work limit before is side = absurd side
 
-pub returns-in-Err-clause-good_names : goal.returns-in-Err-clause-good_names
-returns-in-Err-clause-good_names g c work limit before is = c.write_ordinary.ensures.good_names work limit
+pub returns-in-Err-clause-names : goal.returns-in-Err-clause-names
+returns-in-Err-clause-names g c work limit before k is new = c.write_ordinary.ensures.names work limit c.args.prepared.compare k
 
-pub returns-in-Err-do_steps-clause-good_names : goal.returns-in-Err-do_steps-clause-good_names
-returns-in-Err-do_steps-clause-good_names g c work limit before is good =
-    locked_good limit (g.W.Work.state c.write_ordinary.new.work).folder (g.W.Work.state c.do_steps.new.work).folder (c.do_steps.ensures.lock work) (c.write_ordinary.ensures.good_names work limit good)
+pub returns-in-Err-do_steps-clause-names : goal.returns-in-Err-do_steps-clause-names
+returns-in-Err-do_steps-clause-names g c work limit before k is new own =
+    locked_own limit c.args.prepared.compare k (g.W.Work.state c.write_ordinary.new.work).folder (g.W.Work.state c.do_steps.new.work).folder (c.do_steps.ensures.lock work) (c.write_ordinary.ensures.names work limit c.args.prepared.compare k own)
 
-pub returns-in-Ok-switch-clause-good_names : goal.returns-in-Ok-switch-clause-good_names
-returns-in-Ok-switch-clause-good_names g c work limit before is good =
-    switched_good limit (g.W.Work.state c.write_ordinary.new.work).folder (g.W.Work.state c.do_steps.new.work).folder (g.W.Work.state c.switch.new.work).folder (next_base c.args.prepared)
-    (c.in-Ok.ensures.set_back work limit before is).ready (c.do_steps.ensures.lock work) (c.switch.ensures.begun work) (c.write_ordinary.ensures.good_names work limit good)
+pub returns-in-Ok-switch-clause-names : goal.returns-in-Ok-switch-clause-names
+returns-in-Ok-switch-clause-names g c work limit before k is new own =
+    switched_own limit c.args.prepared k (g.W.Work.state c.write_ordinary.new.work).folder (g.W.Work.state c.do_steps.new.work).folder (g.W.Work.state c.switch.new.work).folder new
+    (c.in-Ok.ensures.set_back work limit before is).ready (c.do_steps.ensures.lock work) (c.switch.ensures.begun work) (c.write_ordinary.ensures.names work limit c.args.prepared.compare k own)
 
-pub returns-clause-good_names : goal.returns-clause-good_names
-returns-clause-good_names g c work limit before is good =
-    switched_good limit (g.W.Work.state c.write_ordinary.new.work).folder (g.W.Work.state c.do_steps.new.work).folder (g.W.Work.state c.switch.new.work).folder (next_base c.args.prepared)
-    (c.in-Ok.ensures.set_back work limit before is).ready (c.do_steps.ensures.lock work) (c.switch.ensures.begun work) (c.write_ordinary.ensures.good_names work limit good)
-
--- # A fall to come
+pub returns-clause-names : goal.returns-clause-names
+returns-clause-names g c work limit before k is new own =
+    switched_own limit c.args.prepared k (g.W.Work.state c.write_ordinary.new.work).folder (g.W.Work.state c.do_steps.new.work).folder (g.W.Work.state c.switch.new.work).folder new
+    (c.in-Ok.ensures.set_back work limit before is).ready (c.do_steps.ensures.lock work) (c.switch.ensures.begun work) (c.write_ordinary.ensures.names work limit c.args.prepared.compare k own)
 
 pub returns-in-Err-clause-falls_as : goal.returns-in-Err-clause-falls_as
 returns-in-Err-clause-falls_as g c work never = absurd (never (c.in-Err.ensures.calls.cause.rose refl))

@@ -1,5 +1,5 @@
 use Rattle.bisync_run.proofs.FallsAsLaws.{written_falls_as}
-use Rattle.bisync_run.proofs.GoodNames.{back_good, written_good}
+use Rattle.bisync_run.proofs.OwnNames.{back_own, written_own}
 use Rattle.bisync_run.proofs.OrdinaryWrites.{new_keeps, back_keeps, written_past, one_synced, two_synced, set_back}
 use Rattle.bisync_run.proofs.ordinary_changes.write_ordinary.Goals as goal
 
@@ -39,13 +39,13 @@ returns-clause-falls_as g c = λ t.
     written_falls_as c.args.pair (g.W.Work.state c.args.work.now).folder (g.W.Work.state c.write_new.new.work).folder (g.W.Work.state c.set_back.new.work).folder
     (c.write_new.ensures.rest t) (c.in_ok-set_back.ensures.done t)
 
-pub returns-in_err-write_new-clause-good_names : goal.returns-in_err-write_new-clause-good_names
-returns-in_err-write_new-clause-good_names g c = λ t limit. written_good limit (g.W.Work.state c.args.work.now).folder (g.W.Work.state c.write_new.new.work).folder (c.write_new.ensures.rest t)
+pub returns-in_err-write_new-clause-names : goal.returns-in_err-write_new-clause-names
+returns-in_err-write_new-clause-names g c = λ t limit compare k. written_own limit compare k (g.W.Work.state c.args.work.now).folder (g.W.Work.state c.write_new.new.work).folder (c.write_new.ensures.rest t)
 
-pub returns-in_err-set_back-clause-good_names : goal.returns-in_err-set_back-clause-good_names
-returns-in_err-set_back-clause-good_names g c = λ t limit.
-    back_good limit (g.W.Work.state c.args.work.now).folder (g.W.Work.state c.write_new.new.work).folder (g.W.Work.state c.set_back.new.work).folder c.args.pair (c.write_new.ensures.rest t) (c.set_back.ensures.begun t)
+pub returns-in_err-set_back-clause-names : goal.returns-in_err-set_back-clause-names
+returns-in_err-set_back-clause-names g c = λ t limit compare k.
+    back_own limit compare k (g.W.Work.state c.args.work.now).folder (g.W.Work.state c.write_new.new.work).folder (g.W.Work.state c.set_back.new.work).folder c.args.pair (c.write_new.ensures.rest t) (c.set_back.ensures.begun t)
 
-pub returns-clause-good_names : goal.returns-clause-good_names
-returns-clause-good_names g c = λ t limit.
-    back_good limit (g.W.Work.state c.args.work.now).folder (g.W.Work.state c.write_new.new.work).folder (g.W.Work.state c.set_back.new.work).folder c.args.pair (c.write_new.ensures.rest t) (c.set_back.ensures.begun t)
+pub returns-clause-names : goal.returns-clause-names
+returns-clause-names g c = λ t limit compare k.
+    back_own limit compare k (g.W.Work.state c.args.work.now).folder (g.W.Work.state c.write_new.new.work).folder (g.W.Work.state c.set_back.new.work).folder c.args.pair (c.write_new.ensures.rest t) (c.set_back.ensures.begun t)

@@ -5,7 +5,7 @@ use Rattle.bisync_run.proofs.BasesSetBack.{digest_past}
 use Rattle.bisync_run.proofs.CarriedOut.{none_or_next, carried_out}
 use Rattle.bisync_run.proofs.EndLaws.{rose_since}
 use Rattle.bisync_run.proofs.FallsAsLaws.{falls_as_twice, lock_falls_as, never_rose, rewritten_falls_as, rewritten_fell}
-use Rattle.bisync_run.proofs.GoodNames.{locked_good, switched_good}
+use Rattle.bisync_run.proofs.OwnNames.{locked_own, switched_own}
 use Rattle.bisync_run.proofs.LockedFolders.{ready_past}
 use Rattle.bisync_run.proofs.OwnLocks.{own_around}
 use Rattle.bisync_run.proofs.resync_changes.carry_out.Goals as goal
@@ -114,24 +114,24 @@ returns-clause-digest_late g c work limit small fits base is =
     (none_or_next limit (g.W.Work.state c.write_resync.new.work).folder (g.W.Work.state c.do_steps.new.work).folder (g.W.Work.state c.switch.new.work).folder
     (next_base c.args.prepared) small (c.in-Ok.ensures.no_base work limit) (c.in-Ok.ensures.ready work limit fits.one fits.two) (c.in-Ok-do_steps.ensures.lock work) (c.switch.ensures.switches work)))
 
--- # Names that are no listings
+-- # The names of the base
 
-pub returns-in-Err-clause-good_names : goal.returns-in-Err-clause-good_names
-returns-in-Err-clause-good_names g c work limit fits = c.write_resync.ensures.good_names work limit
+pub returns-in-Err-clause-names : goal.returns-in-Err-clause-names
+returns-in-Err-clause-names g c work limit k fits new = c.write_resync.ensures.names work limit c.args.prepared.compare k
 
-pub returns-in-Err-do_steps-clause-good_names : goal.returns-in-Err-do_steps-clause-good_names
-returns-in-Err-do_steps-clause-good_names g c work limit fits good =
-    locked_good limit (g.W.Work.state c.write_resync.new.work).folder (g.W.Work.state c.do_steps.new.work).folder (c.do_steps.ensures.lock work) (c.write_resync.ensures.good_names work limit good)
+pub returns-in-Err-do_steps-clause-names : goal.returns-in-Err-do_steps-clause-names
+returns-in-Err-do_steps-clause-names g c work limit k fits new own =
+    locked_own limit c.args.prepared.compare k (g.W.Work.state c.write_resync.new.work).folder (g.W.Work.state c.do_steps.new.work).folder (c.do_steps.ensures.lock work) (c.write_resync.ensures.names work limit c.args.prepared.compare k own)
 
-pub returns-in-Ok-switch-clause-good_names : goal.returns-in-Ok-switch-clause-good_names
-returns-in-Ok-switch-clause-good_names g c work limit fits good =
-    switched_good limit (g.W.Work.state c.write_resync.new.work).folder (g.W.Work.state c.do_steps.new.work).folder (g.W.Work.state c.switch.new.work).folder (next_base c.args.prepared)
-    (c.in-Ok.ensures.ready work limit fits.one fits.two) (c.do_steps.ensures.lock work) (c.switch.ensures.begun work) (c.write_resync.ensures.good_names work limit good)
+pub returns-in-Ok-switch-clause-names : goal.returns-in-Ok-switch-clause-names
+returns-in-Ok-switch-clause-names g c work limit k fits new own =
+    switched_own limit c.args.prepared k (g.W.Work.state c.write_resync.new.work).folder (g.W.Work.state c.do_steps.new.work).folder (g.W.Work.state c.switch.new.work).folder new
+    (c.in-Ok.ensures.ready work limit fits.one fits.two) (c.do_steps.ensures.lock work) (c.switch.ensures.begun work) (c.write_resync.ensures.names work limit c.args.prepared.compare k own)
 
-pub returns-clause-good_names : goal.returns-clause-good_names
-returns-clause-good_names g c work limit fits good =
-    switched_good limit (g.W.Work.state c.write_resync.new.work).folder (g.W.Work.state c.do_steps.new.work).folder (g.W.Work.state c.switch.new.work).folder (next_base c.args.prepared)
-    (c.in-Ok.ensures.ready work limit fits.one fits.two) (c.do_steps.ensures.lock work) (c.switch.ensures.begun work) (c.write_resync.ensures.good_names work limit good)
+pub returns-clause-names : goal.returns-clause-names
+returns-clause-names g c work limit k fits new own =
+    switched_own limit c.args.prepared k (g.W.Work.state c.write_resync.new.work).folder (g.W.Work.state c.do_steps.new.work).folder (g.W.Work.state c.switch.new.work).folder new
+    (c.in-Ok.ensures.ready work limit fits.one fits.two) (c.do_steps.ensures.lock work) (c.switch.ensures.begun work) (c.write_resync.ensures.names work limit c.args.prepared.compare k own)
 
 -- # A fall before the steps
 

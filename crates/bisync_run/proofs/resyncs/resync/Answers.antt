@@ -11,7 +11,7 @@ use Rattle.bisync_run.proofs.EndCases.{device_answers, step_may_change, told_dev
 use Rattle.bisync_run.specs.Counts.{Counts}
 use Rattle.bisync_run.proofs.FallsAsLaws.{fell_held}
 use Rattle.bisync_run.proofs.FolderBases.{carried_in_place, lost_or_next}
-use Rattle.bisync_run.proofs.GoodNames.{kept_good}
+use Rattle.bisync_run.proofs.OwnNames.{kept_own, resync_own}
 use Rattle.bisync_run.proofs.HeldLaws.{untouched, same_windows, looked_base, are_within, aside_held, base_held, done_held, trees_held, mix_held, outcome_held, finds_held, lines_held, numbers_held}
 use Rattle.bisync_run.proofs.OwnLocks.{own_around}
 use Rattle.bisync_run.proofs.ToldGrounds.{step_told}
@@ -275,27 +275,27 @@ returns-in-Ok-carry_out-clause-counted g c =
     c.in-Ok.ensures.one.tree c.in-Ok.ensures.two.tree (by_side (g.A.Remote.state c.carry_out.new.one) (g.B.Remote.state c.carry_out.new.two))
     c.in-Ok-carry_out.changes.one c.in-Ok-carry_out.changes.two c.in-Ok-carry_out.ensures.counted
 
-pub returns-in-Ok-carry_out-clause-good_names : goal.returns-in-Ok-carry_out-clause-good_names
-returns-in-Ok-carry_out-clause-good_names g c work good =
+pub returns-in-Ok-carry_out-clause-names : goal.returns-in-Ok-carry_out-clause-names
+returns-in-Ok-carry_out-clause-names g c work =
     let fits = are_within c.args.limits.now c.in-Ok.prepared c.in-Ok.ensures.within1 c.in-Ok.ensures.within2 in
-    c.in-Ok-carry_out.ensures.good_names work c.args.limits.now.listing fits (kept_good c.args.limits.now (g.W.Work.state c.args.work.now).folder (g.W.Work.state c.look_resync.new.work).folder (c.in-Ok.ensures.folder work) good)
+    resync_own c.args.limits.now _ (g.W.Work.state c.args.work.now).folder (g.W.Work.state c.look_resync.new.work).folder (c.in-Ok.ensures.folder work) c.in-Ok.prepared c.in-Ok.ensures.compare (c.in-Ok.ensures.new_stamp work) fits (g.W.Work.state c.carry_out.new.work).folder (c.in-Ok-carry_out.ensures.names work)
 
-pub returns-clause-good_names : goal.returns-clause-good_names
-returns-clause-good_names g c work good =
+pub returns-clause-names : goal.returns-clause-names
+returns-clause-names g c work =
     let fits = are_within c.args.limits.now c.in-Ok.prepared c.in-Ok.ensures.within1 c.in-Ok.ensures.within2 in
-    c.in-Err-carry_out.ensures.good_names work c.args.limits.now.listing fits (kept_good c.args.limits.now (g.W.Work.state c.args.work.now).folder (g.W.Work.state c.look_resync.new.work).folder (c.in-Ok.ensures.folder work) good)
+    resync_own c.args.limits.now _ (g.W.Work.state c.args.work.now).folder (g.W.Work.state c.look_resync.new.work).folder (c.in-Ok.ensures.folder work) c.in-Ok.prepared c.in-Ok.ensures.compare (c.in-Ok.ensures.new_stamp work) fits (g.W.Work.state c.carry_out.new.work).folder (c.in-Err-carry_out.ensures.names work)
 
-pub returns-in-Err-clause-good_names : goal.returns-in-Err-clause-good_names
-returns-in-Err-clause-good_names g c work = kept_good c.args.limits.now _ _ (c.look_resync.ensures.folder work)
+pub returns-in-Err-clause-names : goal.returns-in-Err-clause-names
+returns-in-Err-clause-names g c work = kept_own c.args.limits.now _ _ _ (c.look_resync.ensures.folder work)
 
-pub returns-in_default-clause-good_names : goal.returns-in_default-clause-good_names
-returns-in_default-clause-good_names g c work = kept_good c.args.limits.now _ _ (c.look_resync.ensures.folder work)
+pub returns-in_default-clause-names : goal.returns-in_default-clause-names
+returns-in_default-clause-names g c work = kept_own c.args.limits.now _ _ _ (c.look_resync.ensures.folder work)
 
-pub returns-in-Err-plan_lines-clause-good_names : goal.returns-in-Err-plan_lines-clause-good_names
-returns-in-Err-plan_lines-clause-good_names g c work = kept_good c.args.limits.now _ _ (c.look_resync.ensures.folder work)
+pub returns-in-Err-plan_lines-clause-names : goal.returns-in-Err-plan_lines-clause-names
+returns-in-Err-plan_lines-clause-names g c work = kept_own c.args.limits.now _ _ _ (c.look_resync.ensures.folder work)
 
-pub returns-then-opts-clause-good_names : goal.returns-then-opts-clause-good_names
-returns-then-opts-clause-good_names g c work = kept_good c.args.limits.now _ _ (c.look_resync.ensures.folder work)
+pub returns-then-opts-clause-names : goal.returns-then-opts-clause-names
+returns-then-opts-clause-names g c work = kept_own c.args.limits.now _ _ _ (c.look_resync.ensures.folder work)
 
 pub returns-then-opts-clause-report : goal.returns-then-opts-clause-report
 returns-then-opts-clause-report g c one two sink =

@@ -26,7 +26,7 @@ use Rattle.bisync_run.proofs.RunEnds.{caused_told}
 use Rattle.bisync_run.proofs.SafeRuns.{keeps_safe}
 use Rattle.bisync_run.proofs.ToldEnds.{after_good_told, good_told, told_same, answers_told, images}
 use Rattle.bisync_run.proofs.ToldGrounds.{last_told}
-use Rattle.bisync_run.proofs.GoodNames.{good_left}
+use Rattle.bisync_run.proofs.OwnNames.{own_left}
 use Rattle.bisync_run.proofs.runs.run.Goals as goal
 
 pub returns-clause-answers : goal.returns-clause-answers
@@ -87,13 +87,10 @@ pub returns-clause-only : goal.returns-clause-only
 returns-clause-only g c mode is = own_told c.args.opts.now c.run_to_close-end.result c.tell_end.result c.tell_end.ensures.end (c.run_to_close-end.ensures.only mode is)
 
 pub returns-clause-kept : goal.returns-clause-kept
-returns-clause-kept g c work early stays =
+returns-clause-kept g c work early =
     let told = early_told c.run_to_close-end.result c.tell_end.result c.tell_end.ensures.end early in
-    c.run_to_close-end.ensures.kept work (ap may_have_changed (sym told) ∙ early) (ap (lets_fall c.args.opts.now.resilient c.args.opts.now.dry_run) (sym told) ∙ stays)
-
-pub returns-clause-only_fallen : goal.returns-clause-only_fallen
-returns-clause-only_fallen g c work early =
-    c.run_to_close-end.ensures.only_fallen work (ap may_have_changed (sym (early_told c.run_to_close-end.result c.tell_end.result c.tell_end.ensures.end early)) ∙ early)
+    kept_told c.args.opts.now c.run_to_close-end.result c.tell_end.result (g.W.Work.state c.args.work.now).folder (g.W.Work.state c.run_to_close-end.new.work).folder c.tell_end.ensures.end
+    (c.run_to_close-end.ensures.kept work (ap may_have_changed (sym told) ∙ early))
 
 pub returns-clause-fallen : goal.returns-clause-fallen
 returns-clause-fallen g c work fell never =
@@ -117,7 +114,7 @@ returns-clause-entry g c work un =
     (c.run_to_close-end.ensures.entry work (ap is_unlocked (sym told) ∙ un))
 
 pub returns-clause-entered : goal.returns-clause-entered
-returns-clause-entered g c work = ⊎_elim (λ early. inl (before_told c.run_to_close-end.result c.tell_end.result c.tell_end.ensures.end early.0, early.1)) inr (c.run_to_close-end.ensures.entered work)
+returns-clause-entered g c work = ⊎_elim (λ early. inl (before_told c.run_to_close-end.result c.tell_end.result c.tell_end.ensures.end early.0, early.1, early.2, early.3)) inr (c.run_to_close-end.ensures.entered work)
 
 pub returns-clause-told : goal.returns-clause-told
 returns-clause-told g c = last_told (by_side g.A.Remote.tells g.B.Remote.tells) (by_side (g.A.Remote.state c.args.one.now) (g.B.Remote.state c.args.two.now)) c.run_to_close-end.result c.tell_end.result c.tell_end.ensures.end c.run_to_close-end.ensures.told
@@ -269,8 +266,7 @@ returns-clause-run_report g c none one two work sink never =
 
 pub returns-clause-only_base : goal.returns-clause-only_base
 returns-clause-only_base g c none only work =
-    let base = c.run_to_close-end.ensures.only_base none only work in
-    (base.0, λ stays. base.1 (unfallen_told c.args.opts.now.resilient c.args.opts.now.dry_run c.run_to_close-end.result c.tell_end.result c.tell_end.ensures.end stays))
+    kept_told c.args.opts.now c.run_to_close-end.result c.tell_end.result (g.W.Work.state c.args.work.now).folder (g.W.Work.state c.run_to_close-end.new.work).folder c.tell_end.ensures.end (c.run_to_close-end.ensures.only_base none only work)
 
 pub returns-clause-fell : goal.returns-clause-fell
 returns-clause-fell g c work fell never =
@@ -363,9 +359,9 @@ returns-clause-counted2 g c tells first second is =
     let now = by_side (g.A.Remote.state c.run_to_close-end.new.one) (g.B.Remote.state c.run_to_close-end.new.two) in
     counted_told (by_side g.A.Remote.tells g.B.Remote.tells) start now c.run_to_close-end.result c.tell_end.result c.tell_end.ensures.end c.run_to_close-end.ensures.counted first second is Two tells
 
-pub returns-clause-good_names : goal.returns-clause-good_names
-returns-clause-good_names g c work left is =
-    good_left c.args.limits.now (g.W.Work.state c.args.work.now).folder (g.W.Work.state c.run_to_close-end.new.work).folder left (c.run_to_close-end.ensures.good_names work) (c.run_to_close-end.ensures.settled work) is
+pub returns-clause-names : goal.returns-clause-names
+returns-clause-names g c work left is =
+    own_left c.args.limits.now.listing _ (g.W.Work.state c.args.work.now).folder (g.W.Work.state c.run_to_close-end.new.work).folder left (c.run_to_close-end.ensures.names work) (c.run_to_close-end.ensures.settled work) is
 
 pub returns-clause-set_back : goal.returns-clause-set_back
 returns-clause-set_back g c none one two work left is =
