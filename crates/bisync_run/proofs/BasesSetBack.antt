@@ -3,7 +3,7 @@ use Rattle.std.proofs.Common.{◌≡◌, ◌⊎◌, ◌∙◌, ◌<◌, ◌^◌,
 use Rattle.std.specs.Option.{unwrap_or}
 use Rattle.bisync_tree.specs.declared.entries.Compare.{Compare}
 use Rattle.bisync_tree.specs.declared.options.Limits.{Limits}
-use Rattle.bisync_device.specs.WorkFolder.{Held, WorkFolder, IsSettled, IsImage}
+use Rattle.bisync_device.specs.WorkFolder.{WorkFolder, IsSettled, IsImage}
 use Rattle.bisync_work.specs.declared.bases.Pair.TheVariants.{Current, Old}
 use Rattle.bisync_work.specs.Base.{Base, HasBaseIn, IsBase, HasNoBase}
 use Rattle.bisync_work.specs.Locks.{ChangesLock}
@@ -28,7 +28,7 @@ use Rattle.bisync_run.specs.declared.prepared.Prepared.{Prepared}
 use Rattle.bisync_run.specs.declared.starting.Started.{Started}
 use Rattle.bisync_run.proofs.DoneSteps.{untouched_twice}
 use Rattle.bisync_run.proofs.FolderBases.{next_of, ready_to}
-use Rattle.bisync_run.proofs.LockedFolders.{base_past, no_base_past, ready_past, same_listings, stamp_before}
+use Rattle.bisync_run.proofs.LockedFolders.{base_past, ready_past, same_listings, stamp_before}
 use Rattle.bisync_run.proofs.OrdinaryHeld.{prepared_of}
 
 -- # The steps of an ordinary run, and its switch
@@ -76,18 +76,16 @@ ordinary_stands opts limits compare digest f f2 same started start made fields s
 
 -- # The digest of a resync
 
-pub digest_past : (limit : ℕ) (next : Base) (stays : Held) (f g h : WorkFolder) (base : Option Base) → (IsBase limit g base × (g.filters_md5 ≡ f.filters_md5)) ⊎ HasNoBase limit g → ChangesLock g h
-    → (IsBase limit h base × (h.filters_md5 ≡ f.filters_md5)) ⊎ (HasNoBase limit h ⊎ (IsBase limit h (Some next) × (h.filters_md5 ≡ stays)))
-digest_past limit next stays f g h base late lock =
-    ⊎_elim (λ same. inl (base_past g h lock limit base same.0, ap (λ (w : WorkFolder). w.filters_md5) lock.rest ∙ same.1)) (λ none. inr (inl (no_base_past g h lock limit none))) late
+pub late_same : (limits : Limits) (compare : Compare) (digest : Option (List ℕ)) (f g : WorkFolder) (IsKept : Type 0) → g ≡ f → IsKept → StoresDigest limits compare digest f g IsKept
+late_same limits compare digest f g IsKept same kept base is = inl (subst (λ (w : WorkFolder). IsBase limits.listing w base) (sym same) is, kept, ap (λ (w : WorkFolder). w.filters_md5) same)
 
-pub late_held : (limits : Limits) (compare : Compare) (digest : Option (List ℕ)) (f f2 : WorkFolder) → f2 ≡ f → (prepared : Prepared) → prepared.compare ≡ compare → IsNewStamp limits.listing f prepared.stamp → (g : WorkFolder)
-    → ((base : Option Base) → IsBase limits.listing f2 base → (IsBase limits.listing g base × (g.filters_md5 ≡ f2.filters_md5))
+pub late_held : (limits : Limits) (compare : Compare) (digest : Option (List ℕ)) (f f2 : WorkFolder) → f2 ≡ f → (prepared : Prepared) → prepared.compare ≡ compare → IsNewStamp limits.listing f prepared.stamp → (g : WorkFolder) (IsKept IsKeptSince : Type 0)
+    → (IsKeptSince → IsKept) → ((base : Option Base) → IsBase limits.listing f2 base → (IsBase limits.listing g base × IsKeptSince × (g.filters_md5 ≡ f2.filters_md5))
     ⊎ (HasNoBase limits.listing g ⊎ (IsBase limits.listing g (Some (next_base prepared)) × (g.filters_md5 ≡ stored digest f2.filters_md5))))
-    → StoresDigest limits compare digest f g
-late_held limits compare digest f f2 same prepared fields new g late base is =
+    → StoresDigest limits compare digest f g IsKept
+late_held limits compare digest f f2 same prepared fields new g IsKept IsKeptSince since late base is =
     ⊎_elim
-    (λ stays. inl (stays.0, stays.1 ∙ ap (λ (w : WorkFolder). w.filters_md5) same))
+    (λ stays. inl (stays.0, since stays.1, stays.2 ∙ ap (λ (w : WorkFolder). w.filters_md5) same))
     (λ other. inr (⊎_elim inl (λ taken. inr ((next_base prepared, next_of limits compare f prepared fields new, taken.0), taken.1 ∙ ap (λ (w : WorkFolder). stored digest w.filters_md5) same)) other))
     (late base (subst (λ (w : WorkFolder). IsBase limits.listing w base) (sym same) is))
 
@@ -108,11 +106,11 @@ module _ (limits : Limits) (compare : Compare) (f f2 g h : WorkFolder) (changes 
   digest_closed : h.filters_md5 ≡ g.filters_md5
   digest_closed = ap (λ (w : WorkFolder). w.filters_md5) closes.rest
 
-  pub late_closed : (opts : Opts) (start : Remotes) → compared opts start ≡ compare → (m : Matter opts f start) → StoresDigest limits compare m.digest f2 g → StoresDigestOf opts limits f start h
-  late_closed opts start fields m late base is =
+  pub late_closed : (IsKept : Type 0) (opts : Opts) (start : Remotes) → compared opts start ≡ compare → (m : Matter opts f start) → StoresDigest limits compare m.digest f2 g IsKept → StoresDigestOf opts limits f start h IsKept
+  late_closed IsKept opts start fields m late base is =
       ⊎_elim
       (λ same. ⊎_elim
-      (λ stays. inl (stays, digest_closed ∙ same.1 ∙ ap (λ (w : WorkFolder). w.filters_md5) changes.rest))
+      (λ stays. inl (stays, same.1, digest_closed ∙ same.2 ∙ ap (λ (w : WorkFolder). w.filters_md5) changes.rest))
       (λ none. inr (inl none))
       (closes.base limits.listing base same.0))
       (λ other. inr (⊎_elim

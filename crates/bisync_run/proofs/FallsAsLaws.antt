@@ -170,3 +170,10 @@ where_it_falls resilient dry_run (Err end) falls p = p
 -- a side that nothing was done to
 pub keeps_tree_same : (tells : Bool) (a : RemoteState) → KeepsTree tells a a
 keeps_tree_same tells a t = record { tree = refl; changes = refl; folders = refl }
+
+pub keeps_tree_twice : (tells : Bool) (a b c : RemoteState) → KeepsTree tells a b → KeepsTree tells b c → KeepsTree tells a c
+keeps_tree_twice tells a b c first second t = record {
+  tree = (second t).tree ∙ (first t).tree;
+  changes = (second t).changes ∙ (first t).changes;
+  folders = (second t).folders ∙ (first t).folders;
+}

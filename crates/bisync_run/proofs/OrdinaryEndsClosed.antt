@@ -62,8 +62,6 @@ module _ (opts : Opts) (limits : Limits) (f g : WorkFolder) (changes : ChangesLo
   lines_before : (lines : List ℕ) → AreCourseLines opts limits g s digest lines → AreCourseLines opts limits f s digest lines
   lines_before lines x = record { course = course_before opts limits f g changes s digest x.course; are = x.are }
 
--- # What was told
-
 or_true : (a b : Bool) → b ≡ true → (a || b) ≡ true
 or_true true b is = refl
 or_true false b is = is
@@ -71,12 +69,9 @@ or_true false b is = is
 or_first : (a b : Bool) → a ≡ true → (a || b) ≡ true
 or_first a b is = ap (λ (x : Bool). x || b) is
 
-module _ (opts : Opts) (limits : Limits) (f g mid h : WorkFolder) (changes : ChangesLock f g) (closes : Closes mid h) (start now : Remotes) (m : Matter opts f start) (before after : List ℕ) where
-  abbrev Told : End → Type 0
-  Told end = TellsOrdinaryRun opts limits f start h now before [] after end
+-- # The base that was set back
 
-  -- # The base that was set back
-
+module _ (limits : Limits) (f g mid h : WorkFolder) (changes : ChangesLock f g) (closes : Closes mid h) where
   none_closed : HasNoBase limits.listing mid → HasNoBase limits.listing h
   none_closed none = ⊎_elim (λ same. same) (λ same. same) (closes.base limits.listing None none)
 
@@ -85,11 +80,20 @@ module _ (opts : Opts) (limits : Limits) (f g mid h : WorkFolder) (changes : Cha
       ⊎_elim (λ old. closes.pair limits.listing Old base old) (λ none. inr (none_closed none))
       (stands (subst IsSideEnd same side) base (base_past f g changes limits.listing (Some base) is))
 
+  pub stands_by_close : (ended : Result End End) (closed : End) → ClosesWith ended closed → StandsSetBack limits (end_of ended) g mid → StandsSetBack limits closed f h
+  stands_by_close (Ok end) closed (inl same) stands side base is = stands_closed end closed same stands side base is
+  stands_by_close (Ok end) closed (inr left) stands side base is = absurd (subst IsSideEnd left side)
+  stands_by_close (Err end) closed same stands side base is = stands_closed end closed same stands side base is
+
   good_stands : (end closed : End) → is_good end ≡ true → (closed ≡ end) ⊎ (closed ≡ LockLeft) → StandsSetBack limits closed f h
   good_stands end closed well (inl same) side base is = absurd (not_side end well (subst IsSideEnd same side))
   good_stands end closed well (inr left) side base is = absurd (subst IsSideEnd left side)
 
-  -- # The lines
+-- # What was told
+
+module _ (opts : Opts) (limits : Limits) (f g mid h : WorkFolder) (changes : ChangesLock f g) (closes : Closes mid h) (start now : Remotes) (m : Matter opts f start) (before after : List ℕ) where
+  abbrev Told : End → Type 0
+  Told end = TellsOrdinaryRun opts limits f start h now before [] after end
 
   with_lines : (closed : End) (lines : List ℕ) → may_tell_plan closed ≡ true → (is_after_good closed ≡ false → opts.dry_run ≡ false) → StandsSetBack limits closed f h → AreCourseLines opts limits g (sides_in m) m.digest lines → after ≡ before ++ lines → Told closed
   with_lines closed lines may changing stands are is =
@@ -99,13 +103,13 @@ module _ (opts : Opts) (limits : Limits) (f g mid h : WorkFolder) (changes : Cha
       → (mid ≡ g → KeepsButFallen (lets_fall opts.resilient opts.dry_run closed) f h) → TellsCourse opts limits g (sides_in m) m.digest start mid now before after ended → Told closed
   run_tells_closed old new (Ok end) closed well stops is early (inl (only, quiet, untouched, same)) = inr (inl (λ good. only, quiet ∙ sym (append-nil before), untouched, early same))
   run_tells_closed old new (Ok end) closed well stops (inl same) early (inr (lines, are, told)) =
-      with_lines closed lines (ap may_tell_plan same ∙ or_true (may_have_changed end) (is_good end) well) (λ bad. false_true (sym bad ∙ ap is_after_good same ∙ good_is_after_good end well)) (good_stands end closed well (inl same)) are told
-  run_tells_closed old new (Ok end) closed well stops (inr left) early (inr (lines, are, told)) = with_lines closed lines (ap may_tell_plan left) (λ bad. false_true (sym bad ∙ ap is_after_good left)) (good_stands end closed well (inr left)) are told
+      with_lines closed lines (ap may_tell_plan same ∙ or_true (may_have_changed end) (is_good end) well) (λ bad. false_true (sym bad ∙ ap is_after_good same ∙ good_is_after_good end well)) (good_stands limits f g mid h changes closes end closed well (inl same)) are told
+  run_tells_closed old new (Ok end) closed well stops (inr left) early (inr (lines, are, told)) = with_lines closed lines (ap may_tell_plan left) (λ bad. false_true (sym bad ∙ ap is_after_good left)) (good_stands limits f g mid h changes closes end closed well (inr left)) are told
   run_tells_closed old new (Err end) closed well stops same early (inl failed) = inl (ap is_sink_fault same ∙ failed)
   run_tells_closed old new (Err end) closed well stops same early (inr (inl (quiet, untouched, kept))) =
       inr (inl (λ good. absurd (stops_not_after_good old new end stops (ap is_after_good (sym same) ∙ good)), quiet ∙ sym (append-nil before), untouched, early kept))
   run_tells_closed old new (Err end) closed well stops same early (inr (inr (may, changing, stands, (lines, are, told)))) =
-      with_lines closed lines (ap may_tell_plan same ∙ or_first (may_have_changed end) (is_good end) may) (λ bad. changing) (stands_closed end closed same stands) are told
+      with_lines closed lines (ap may_tell_plan same ∙ or_first (may_have_changed end) (is_good end) may) (λ bad. changing) (stands_closed limits f g mid h changes closes end closed same stands) are told
 
 -- a run that didn't get the lock told nothing
 pub tells_unlocked : (opts : Opts) (limits : Limits) (f : WorkFolder) (start : Remotes) (g : WorkFolder) (before : List ℕ) (end : End) → (is_after_good end ≡ true → ⊥) → AreUntouched start start

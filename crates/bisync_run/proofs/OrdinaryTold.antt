@@ -8,6 +8,8 @@ use Rattle.bisync_opts.specs.declared.options.Opts.{Opts}
 use Rattle.bisync_report.specs.declared.ends.End.{End}
 use Rattle.bisync_run.specs.Closing.{EndsWith}
 use Rattle.bisync_run.specs.EndKinds.{is_after_good}
+use Rattle.bisync_run.specs.KeptNames.{IsSideEnd}
+use Rattle.bisync_run.specs.LeftNames.{StaysOrStands}
 use Rattle.bisync_run.specs.OrdinaryEnds.{IsOrdinaryEnd}
 use Rattle.bisync_run.specs.OrdinaryRuns.{AnswersOrdinaryRun, IsMadeNextBy, IsUnrefused, KeepsOrdinaryBaseOf, LeavesOrdinaryBaseOf, TellsOrdinaryRun}
 use Rattle.bisync_run.specs.ResyncRuns.{sides_in}
@@ -30,6 +32,10 @@ run_answers_told opts limits f start clock moment end last answers unrefused (in
 run_answers_told opts limits f start clock moment end last answers unrefused (inr (good, failed)) =
     let none = unrefused (good_is_after_good end good) in
     subst (AnswersOrdinaryRun opts limits f start clock moment) (sym failed) (inr (none.0, none.1))
+
+pub stands_told : {IsKept : Type 0} (opts : Opts) (limits : Limits) (end last : End) (f g : WorkFolder) → EndsWith end last → StaysOrStands opts limits end f g IsKept → StaysOrStands opts limits last f g IsKept
+stands_told {IsKept = IsKept} opts limits end last f g (inl same) left = subst (λ (e : End). StaysOrStands opts limits e f g IsKept) (sym same) left
+stands_told opts limits end last f g (inr lost) left = inr (λ side before is. absurd (subst IsSideEnd lost.1 side))
 
 -- the last line stands behind what was told before it
 pub run_tells_last : (opts : Opts) (limits : Limits) (f : WorkFolder) (start : Remotes) (g : WorkFolder) (now : Remotes) (before mid after last : List ℕ) (end : End)

@@ -1,5 +1,5 @@
 -- The names of a base hold nothing, what stood under a name of their side, or a new listing, whatever call failed.
-use Rattle.std.proofs.Common.{◌≡◌, ◌++◌, ◌∙◌, ◌<◌, ◌^◌, [], ◌∷◌, refl, sym, ap, subst, inl, inr, ℕ, List, Option, Some, None}
+use Rattle.std.proofs.Common.{◌≡◌, ◌⊎◌, ◌++◌, ◌∙◌, ◌<◌, ◌^◌, [], ◌∷◌, refl, sym, ap, subst, inl, inr, ⊎_elim, ℕ, List, Option, Some, None}
 use Rattle.std.specs.Prelude.{⊤}
 use Rattle.bisync_tree.specs.declared.entries.Compare.{Compare}
 use Rattle.bisync_tree.specs.declared.options.Limits.{Limits}
@@ -52,6 +52,9 @@ after_each P (r ∷ rs) each f is = after_each P rs each.1 (renamed r.0 r.1 f) (
 begun_keeps : (P : WorkFolder → Type 0) (renames : Renames) → Each P renames → (f g : WorkFolder) → AreBegun renames f g → P f → P g
 begun_keeps P renames each f g begun is = subst P (sym begun.folder) (after_each P begun.done (first_of P begun.done begun.left (subst (Each P) begun.all each)) f is)
 
+same_twice : (f g h : WorkFolder) → SameListings f g → SameListings g h → SameListings f h
+same_twice f g h first second = record { one = second.one ∙ first.one; two = second.two ∙ first.two; one_old = second.one_old ∙ first.one_old; two_old = second.two_old ∙ first.two_old }
+
 module _ (limit : ℕ) (compare : Compare) (k : WorkFolder) where
   abbrev IsOne : Held → Type 0
   IsOne = IsFirst limit compare k k.one
@@ -60,10 +63,10 @@ module _ (limit : ℕ) (compare : Compare) (k : WorkFolder) where
   IsTwo = IsFirst limit compare k k.two
 
   abbrev IsOneOld : Held → Type 0
-  IsOneOld = IsOlder limit compare k k.one k.one_old
+  IsOneOld = IsOlder k.one k.one_old
 
   abbrev IsTwoOld : Held → Type 0
-  IsTwoOld = IsOlder limit compare k k.two k.two_old
+  IsTwoOld = IsOlder k.two k.two_old
 
   over_one : (held below : Held) → IsOne held → IsOne below → IsOne (moved_over held below)
   over_one Absent below a b = b
@@ -75,12 +78,12 @@ module _ (limit : ℕ) (compare : Compare) (k : WorkFolder) where
   over_two (Kept bytes) below a b = a
   over_two (Loose bytes) below a b = a
 
-  over_one_old : (held below : Held) → IsOne held → IsOneOld below → IsOneOld (moved_over held below)
+  over_one_old : (held below : Held) → (held ≡ Absent) ⊎ (held ≡ k.one) → IsOneOld below → IsOneOld (moved_over held below)
   over_one_old Absent below a b = b
   over_one_old (Kept bytes) below a b = inr a
   over_one_old (Loose bytes) below a b = inr a
 
-  over_two_old : (held below : Held) → IsTwo held → IsTwoOld below → IsTwoOld (moved_over held below)
+  over_two_old : (held below : Held) → (held ≡ Absent) ⊎ (held ≡ k.two) → IsTwoOld below → IsTwoOld (moved_over held below)
   over_two_old Absent below a b = b
   over_two_old (Kept bytes) below a b = inr a
   over_two_old (Loose bytes) below a b = inr a
@@ -88,13 +91,31 @@ module _ (limit : ℕ) (compare : Compare) (k : WorkFolder) where
   abbrev AreOwn : WorkFolder → Type 0
   AreOwn = HoldsOwn limit compare k
 
-  one_back : (f : WorkFolder) → AreOwn f → AreOwn (over One OneOld f)
+  -- with no new listing yet
+  record HoldsNoNew (f : WorkFolder) : Type 0 where
+    one : (f.one ≡ Absent) ⊎ (f.one ≡ k.one)
+    two : (f.two ≡ Absent) ⊎ (f.two ≡ k.two)
+    one_old : IsOneOld f.one_old
+    two_old : IsTwoOld f.two_old
+
+  same_no_new : (f : WorkFolder) → SameListings k f → HoldsNoNew f
+  same_no_new f same = record { one = inr same.one; two = inr same.two; one_old = inl same.one_old; two_old = inl same.two_old }
+
+  no_new_own : (f : WorkFolder) → HoldsNoNew f → AreOwn f
+  no_new_own f x = record {
+    one = ⊎_elim inl (λ was. inr (inl was)) x.one;
+    two = ⊎_elim inl (λ was. inr (inl was)) x.two;
+    one_old = x.one_old;
+    two_old = x.two_old;
+  }
+
+  one_back : (f : WorkFolder) → HoldsNoNew f → HoldsNoNew (over One OneOld f)
   one_back f x = record { one = inl refl; two = x.two; one_old = over_one_old f.one f.one_old x.one x.one_old; two_old = x.two_old }
 
-  two_back : (f : WorkFolder) → AreOwn f → AreOwn (over Two TwoOld f)
+  two_back : (f : WorkFolder) → HoldsNoNew f → HoldsNoNew (over Two TwoOld f)
   two_back f x = record { one = x.one; two = inl refl; one_old = x.one_old; two_old = over_two_old f.two f.two_old x.two x.two_old }
 
-  each_back : (pair : Pair) → Each AreOwn (back_renames pair)
+  each_back : (pair : Pair) → Each HoldsNoNew (back_renames pair)
   each_back Current = (one_back, (two_back, tt))
   each_back Mixed = (two_back, tt)
   each_back Old = tt
@@ -156,8 +177,12 @@ module _ (limit : ℕ) (compare : Compare) (k : WorkFolder) where
   pub locked_own : (f g : WorkFolder) → ChangesLock f g → HoldsOwn limit compare k f → HoldsOwn limit compare k g
   locked_own f g lock = same_own f g (same_listings f g lock)
 
-  pub back_own : (f g h : WorkFolder) (pair : Pair) → but_new g ≡ but_new f → AreBegun (back_renames pair) g h → HoldsOwn limit compare k f → HoldsOwn limit compare k h
-  back_own f g h pair rest begun own = begun_keeps AreOwn (back_renames pair) (each_back pair) g h begun (written_own f g rest own)
+  pub unchanged_own : (f : WorkFolder) → SameListings k f → HoldsOwn limit compare k f
+  unchanged_own f same = no_new_own f (same_no_new f same)
+
+  -- new listings written, and the set back begun
+  pub back_own : (f g h : WorkFolder) (pair : Pair) → but_new g ≡ but_new f → AreBegun (back_renames pair) g h → SameListings k f → HoldsOwn limit compare k h
+  back_own f g h pair rest begun same = no_new_own h (begun_keeps HoldsNoNew (back_renames pair) (each_back pair) g h begun (same_no_new g (same_twice k f g same (new_same f g rest))))
 
   pub fallen_own : (f g : WorkFolder) → AreBegun fall_renames f g → HoldsOwn limit compare k f → HoldsOwn limit compare k g
   fallen_own = begun_keeps AreOwn fall_renames each_falls
@@ -186,16 +211,19 @@ switched_own limit prepared k f g h stamp is lock begun own =
 
 -- # The run
 
+same_listings_of : (f g : WorkFolder) → g ≡ f → SameListings f g
+same_listings_of f g same = subst (SameListings f) (sym same) (record { one = refl; two = refl; one_old = refl; two_old = refl })
+
 pub kept_own : (limits : Limits) (compare : Compare) (f g : WorkFolder) → g ≡ f → HoldsOwn limits.listing compare f g
 kept_own limits compare f g same = subst (HoldsOwn limits.listing compare f) (sym same) (own_same limits.listing compare f)
 
 pub ordinary_own : (opts : Opts) (limits : Limits) (compare : Compare) (digest : Option (List ℕ)) (f f2 : WorkFolder) (same : f2 ≡ f) (started : Started) (start : IsStartOf opts limits f digest started)
     (made : Look) (fields : made.compare ≡ compare) → limits.listing < 2 ^ 64 → AreWithin limits.listing (prepared_of started.stamp made) → (g : WorkFolder)
-    → ((limit : ℕ) (base : Base) (k : WorkFolder) → IsPrepared limit f2 started.pair base (prepared_of started.stamp made) → IsNewStamp limit k started.stamp → HoldsOwn limit made.compare k f2 → HoldsOwn limit made.compare k g)
+    → ((limit : ℕ) (base : Base) (k : WorkFolder) → IsPrepared limit f2 started.pair base (prepared_of started.stamp made) → IsNewStamp limit k started.stamp → SameListings k f2 → HoldsOwn limit made.compare k g)
     → HoldsOwn limits.listing compare f g
 ordinary_own opts limits compare digest f f2 same started start made fields small fits g left =
     subst (λ (c : Compare). HoldsOwn limits.listing c f g) fields
-    (left limits.listing start.base f (ready_to opts limits compare digest f f2 same started start made fields small fits) start.new (kept_own limits made.compare f f2 same))
+    (left limits.listing start.base f (ready_to opts limits compare digest f f2 same started start made fields small fits) start.new (same_listings_of f f2 same))
 
 pub resync_own : (limits : Limits) (compare : Compare) (f f2 : WorkFolder) → f2 ≡ f → (prepared : Prepared) → prepared.compare ≡ compare → IsNewStamp limits.listing f prepared.stamp → AreWithin limits.listing prepared → (g : WorkFolder)
     → ((limit : ℕ) (k : WorkFolder) → AreWithin limit prepared → IsNewStamp limit k prepared.stamp → HoldsOwn limit prepared.compare k f2 → HoldsOwn limit prepared.compare k g) → HoldsOwn limits.listing compare f g
@@ -209,9 +237,10 @@ module _ (limit : ℕ) (compare : Compare) (f f2 : WorkFolder) (lock : ChangesLo
   first_before first first2 held same (inr (inl was)) = inr (inl (was ∙ same))
   first_before first first2 held same (inr (inr new)) = inr (inr (new.0, new.1, stamp_before f f2 lock limit new.0 new.2, new.3))
 
-  older_before : (first older first2 older2 held : Held) → first2 ≡ first → older2 ≡ older → IsOlder limit compare f2 first2 older2 held → IsOlder limit compare f first older held
+  older_before : (first older first2 older2 held : Held) → first2 ≡ first → older2 ≡ older → IsOlder first2 older2 held → IsOlder first older held
   older_before first older first2 older2 held same1 same2 (inl was) = inl (was ∙ same2)
-  older_before first older first2 older2 held same1 same2 (inr other) = inr (first_before first first2 held same1 other)
+  older_before first older first2 older2 held same1 same2 (inr (inl none)) = inr (inl none)
+  older_before first older first2 older2 held same1 same2 (inr (inr was)) = inr (inr (was ∙ same1))
 
   pub own_before : (g : WorkFolder) → HoldsOwn limit compare f2 g → HoldsOwn limit compare f g
   own_before g x =
@@ -259,9 +288,10 @@ first_is_good limit compare f first held good (inl none) = inl none
 first_is_good limit compare f first held good (inr (inl was)) = subst (IsGood limit) (sym was) good
 first_is_good limit compare f first held good (inr (inr new)) = inr (_, new.1, new.3)
 
-older_is_good : (limit : ℕ) (compare : Compare) (f : WorkFolder) (first older held : Held) → IsGood limit first → IsGood limit older → IsOlder limit compare f first older held → IsGood limit held
-older_is_good limit compare f first older held good1 good2 (inl was) = subst (IsGood limit) (sym was) good2
-older_is_good limit compare f first older held good1 good2 (inr other) = first_is_good limit compare f first held good1 other
+older_is_good : (limit : ℕ) (first older held : Held) → IsGood limit first → IsGood limit older → IsOlder first older held → IsGood limit held
+older_is_good limit first older held good1 good2 (inl was) = subst (IsGood limit) (sym was) good2
+older_is_good limit first older held good1 good2 (inr (inl none)) = inl none
+older_is_good limit first older held good1 good2 (inr (inr was)) = subst (IsGood limit) (sym was) good1
 
 -- where each name had a listing, or nothing, each has
 pub own_names_are_good : (limit : ℕ) (compare : Compare) (f g : WorkFolder) → HoldsOwn limit compare f g → HasGoodNames limit f → HasGoodNames limit g
@@ -275,8 +305,8 @@ own_names_are_good limit compare f g own good =
       inr (
         first_is_good limit compare f f.two g.two two.0 own.two,
         inr (
-          older_is_good limit compare f f.one f.one_old g.one_old one.0 one_old.0 own.one_old,
-          inr (older_is_good limit compare f f.two f.two_old g.two_old two.0 two_old.0 own.two_old, refl),
+          older_is_good limit f.one f.one_old g.one_old one.0 one_old.0 own.one_old,
+          inr (older_is_good limit f.two f.two_old g.two_old two.0 two_old.0 own.two_old, refl),
         ),
       ),
     )

@@ -14,7 +14,7 @@ use Rattle.bisync_report.specs.declared.ends.End.TheVariants.{WorkFault}
 use Rattle.bisync_run.specs.EndKinds.{is_before_lock, lets_fall}
 use Rattle.bisync_run.specs.Entering.{AtMoment, HasSomeRules}
 use Rattle.bisync_run.specs.FolderBases.{TakesNext, compared}
-use Rattle.bisync_run.specs.KeptNames.{StoresRules}
+use Rattle.bisync_run.specs.KeptNames.{KeepsOwn, StandsSetBack, StoresRules}
 use Rattle.bisync_run.specs.ResyncRuns.{Matter}
 use Rattle.bisync_run.specs.ResyncWriting.{stored}
 use Rattle.bisync_run.specs.Untouched.{Remotes, AreUntouched}
@@ -33,12 +33,12 @@ LeavesBaseSetBack limits compare f start g now =
 
 -- # The digest of the filters file
 
--- The base is the one before, and so is the digest; or there is none; or it is a new one, and the digest of the filters file
--- stands beside it.
-abbrev pub StoresDigestOf : Opts → Limits → WorkFolder → Remotes → WorkFolder → Type 0
-StoresDigestOf opts limits f start g =
+-- The base is the one before, and so is the digest, and what is kept is kept; or there is none; or it is a new one, and the
+-- digest of the filters file stands beside it.
+abbrev pub StoresDigestOf : Opts → Limits → WorkFolder → Remotes → WorkFolder → Type 0 → Type 0
+StoresDigestOf opts limits f start g IsKept =
     (base : Option Base) → IsBase limits.listing f base
-    → (IsBase limits.listing g base × (g.filters_md5 ≡ f.filters_md5))
+    → (IsBase limits.listing g base × IsKept × (g.filters_md5 ≡ f.filters_md5))
     ⊎ (HasNoBase limits.listing g
     ⊎ (TakesNext limits (compared opts start) f g × ((m : Matter opts f start) × (g.filters_md5 ≡ stored m.digest f.filters_md5))))
 
@@ -61,6 +61,13 @@ LeavesOwnLock opts told moment end f g IsKept =
     ⊎ ((HasSomeRules opts.filters f × IsOwnLock opts.max_lock told moment g.lock)
     ⊎ ((is_before_lock end ≡ true) × ChangesLock f g × IsKept × MayTakeLock opts told moment end f g))
 
+-- # The base that an ordinary run set back
+
+-- What is kept is kept, and no name but the lock is another, but those that fall; or the base was set back, where a side's device
+-- failed.
+abbrev pub StaysOrStands : Opts → Limits → End → WorkFolder → WorkFolder → Type 0 → Type 0
+StaysOrStands opts limits end f g IsKept = (IsKept × KeepsOwn opts end f g) ⊎ StandsSetBack limits end f g
+
 -- # The fall of a resync
 
 -- What is kept is kept, and no name but the lock is another, or the listings fell, where they may, and the stored digest is as
@@ -73,11 +80,15 @@ StaysOrFell opts end f g IsKept =
 -- # Inside this crate
 
 -- the same, with this digest
-abbrev pub StoresDigest : Limits → Compare → Option (List ℕ) → WorkFolder → WorkFolder → Type 0
-StoresDigest limits compare digest f g =
+abbrev pub StoresDigest : Limits → Compare → Option (List ℕ) → WorkFolder → WorkFolder → Type 0 → Type 0
+StoresDigest limits compare digest f g IsKept =
     (base : Option Base) → IsBase limits.listing f base
-    → (IsBase limits.listing g base × (g.filters_md5 ≡ f.filters_md5))
+    → (IsBase limits.listing g base × IsKept × (g.filters_md5 ≡ f.filters_md5))
     ⊎ (HasNoBase limits.listing g ⊎ (TakesNext limits compare f g × (g.filters_md5 ≡ stored digest f.filters_md5)))
+
+-- nothing changed, or the base was set back, where a side's device failed
+abbrev pub SameOrStands : Limits → End → WorkFolder → WorkFolder → Type 0 → Type 0
+SameOrStands limits end f g IsKept = (IsKept × (g ≡ f)) ⊎ StandsSetBack limits end f g
 
 -- the listings fell, and the digest is stored
 abbrev pub FellWith : Option (List ℕ) → WorkFolder → WorkFolder → Type 0

@@ -20,16 +20,16 @@ IsNewListing limit compare f held = (stamp : ℕ) × (rows : Rows) × IsNewStamp
 abbrev pub IsFirst : ℕ → Compare → WorkFolder → Held → Held → Type 0
 IsFirst limit compare f first held = (held ≡ Absent) ⊎ ((held ≡ first) ⊎ IsNewListing limit compare f held)
 
--- under its -old name: what stood there, or what the first name may hold
-abbrev pub IsOlder : ℕ → Compare → WorkFolder → Held → Held → Held → Type 0
-IsOlder limit compare f first older held = (held ≡ older) ⊎ IsFirst limit compare f first held
+-- under its -old name: what stood there, or nothing, or what stood under the first name
+abbrev pub IsOlder : Held → Held → Held → Type 0
+IsOlder first older held = (held ≡ older) ⊎ ((held ≡ Absent) ⊎ (held ≡ first))
 
 -- so it is under each of the four names
 pub record HoldsOwn (limit : ℕ) (compare : Compare) (f g : WorkFolder) : Type 0 where
   pub one : IsFirst limit compare f f.one g.one
   pub two : IsFirst limit compare f f.two g.two
-  pub one_old : IsOlder limit compare f f.one f.one_old g.one_old
-  pub two_old : IsOlder limit compare f f.two f.two_old g.two_old
+  pub one_old : IsOlder f.one f.one_old g.one_old
+  pub two_old : IsOlder f.two f.two_old g.two_old
 
 -- after a run of these options that began from these sides
 abbrev pub HoldsOwnOf : Opts → Limits → WorkFolder → Remotes → WorkFolder → Type 0

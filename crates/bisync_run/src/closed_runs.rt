@@ -10,7 +10,6 @@ ghost use Rattle.bisync_opts.specs.Ranges.{IsInRange};
 ghost use Rattle.bisync_work.specs.Locks.{ChangesLock, IsFree, KeepsBlocking};
 ghost use Rattle.bisync_work.specs.Moves.{IsFallen};
 ghost use Rattle.bisync_run.specs.Beginnings.{AnswersBeginningOf, IsWellBegunOf};
-ghost use Rattle.bisync_run.specs.Closing.{HasNoListings};
 ghost use Rattle.bisync_run.specs.CountedChanges.{CountsChanges};
 ghost use Rattle.bisync_run.specs.Counts.{counts, IsCaused, Later};
 ghost use Rattle.bisync_run.specs.EndKinds.{is_good, is_after_good, has_freed, is_before_lock, is_unlocked, lets_fall, may_have_changed, may_tell_plan};
@@ -19,7 +18,7 @@ ghost use Rattle.bisync_run.specs.FilterRules.{KnowsRules};
 ghost use Rattle.bisync_run.specs.FolderBases.{LeavesFolderBase, LeavesNextInPlace, Writes, compared};
 ghost use Rattle.bisync_run.specs.Grounds.{HasGrounds, IsTold};
 ghost use Rattle.bisync_run.specs.KeptNames.{KeepsOwn};
-ghost use Rattle.bisync_run.specs.LeftNames.{LeavesBaseSetBack, LeavesOwnLock, StaysOrFell, StoresDigestOf};
+ghost use Rattle.bisync_run.specs.LeftNames.{LeavesBaseSetBack, LeavesOwnLock, StaysOrFell, StaysOrStands, StoresDigestOf};
 ghost use Rattle.bisync_run.specs.LockNew.{KeepsLockNew};
 ghost use Rattle.bisync_run.specs.Ordinary.{KeepsOrdinaryRest};
 ghost use Rattle.bisync_run.specs.OrdinaryEnds.{IsOrdinaryEnd};
@@ -84,6 +83,7 @@ pub fn run_to_close<A: Remote, B: Remote, W: Work, C: Clock, S: Sink>(
     ensures run_trees { opts.now.resync ≡ None → IsTrue A.tells → IsTrue B.tells → IsTrue W.tells →
         LeavesOrdinaryTreesOf opts.now limits.now (W.state work.old).folder (by_side (A.state one.old) (B.state two.old)) C.tells (C.moment clock.old) result (W.state work.new).folder (by_side (A.state one.new) (B.state two.new)) }
     ensures set_back { opts.now.resync ≡ None → IsTrue A.tells → IsTrue B.tells → IsTrue W.tells → LeavesBaseSetBack limits.now (compared opts.now (by_side (A.state one.old) (B.state two.old))) (W.state work.old).folder (by_side (A.state one.old) (B.state two.old)) (W.state work.new).folder (by_side (A.state one.new) (B.state two.new)) }
+    ensures stands { opts.now.resync ≡ None → IsTrue W.tells → StaysOrStands opts.now limits.now result (W.state work.old).folder (W.state work.new).folder (KeepsTree A.tells (A.state one.old) (A.state one.new) × KeepsTree B.tells (B.state two.old) (B.state two.new)) }
     ensures names { IsTrue W.tells → HoldsOwnOf opts.now limits.now (W.state work.old).folder (by_side (A.state one.old) (B.state two.old)) (W.state work.new).folder }
     ensures run_rest { opts.now.resync ≡ None → IsTrue W.tells → KeepsOrdinaryRest (lets_fall opts.now.resilient opts.now.dry_run result) (W.state work.old).folder (W.state work.new).folder }
     ensures only_run { opts.now.resync ≡ None → IsOrdinaryEnd opts.now (compare_in opts.now.compare (A.state one.old).window (B.state two.old).window) result }
@@ -100,7 +100,6 @@ pub fn run_to_close<A: Remote, B: Remote, W: Work, C: Clock, S: Sink>(
     ensures untouched_one { may_have_changed result ≡ false → KeepsTree A.tells (A.state one.old) (A.state one.new) }
     ensures untouched_two { may_have_changed result ≡ false → KeepsTree B.tells (B.state two.old) (B.state two.new) }
     ensures kept { IsTrue W.tells → may_have_changed result ≡ false → KeepsOwn opts.now result (W.state work.old).folder (W.state work.new).folder }
-    ensures fallen { IsTrue W.tells → lets_fall opts.now.resilient opts.now.dry_run result ≡ true → (Rose (W.state work.old).faults (W.state work.new).faults → ⊥) → HasNoListings (W.state work.new).folder }
     ensures fell { IsTrue W.tells → lets_fall opts.now.resilient opts.now.dry_run result ≡ true → (Rose (W.state work.old).faults (W.state work.new).faults → ⊥) → IsFallen (W.state work.old).folder (W.state work.new).folder }
     ensures dry_one { opts.now.dry_run ≡ true → KeepsTree A.tells (A.state one.old) (A.state one.new) }
     ensures dry_two { opts.now.dry_run ≡ true → KeepsTree B.tells (B.state two.old) (B.state two.new) }
@@ -109,7 +108,7 @@ pub fn run_to_close<A: Remote, B: Remote, W: Work, C: Clock, S: Sink>(
     ensures freed { IsTrue W.tells → has_freed result ≡ true → (W.state work.new).folder.lock ≡ Absent }
     ensures lock_new { IsTrue W.tells → (is_after_good result ≡ true) ⊎ (Rose (W.state work.old).faults (W.state work.new).faults → ⊥) → KeepsLockNew (W.state work.old).folder (W.state work.new).folder }
     ensures own_lock { IsTrue W.tells → LeavesOwnLock opts.now C.tells (C.moment clock.old) result (W.state work.old).folder (W.state work.new).folder (KeepsTree A.tells (A.state one.old) (A.state one.new) × KeepsTree B.tells (B.state two.old) (B.state two.new)) }
-    ensures digest_late { (mode : Prefer) → opts.now.resync ≡ Some mode → IsTrue W.tells → StoresDigestOf opts.now limits.now (W.state work.old).folder (by_side (A.state one.old) (B.state two.old)) (W.state work.new).folder }
+    ensures digest_late { (mode : Prefer) → opts.now.resync ≡ Some mode → IsTrue W.tells → StoresDigestOf opts.now limits.now (W.state work.old).folder (by_side (A.state one.old) (B.state two.old)) (W.state work.new).folder (KeepsTree A.tells (A.state one.old) (A.state one.new) × KeepsTree B.tells (B.state two.old) (B.state two.new)) }
     ensures no_digest { IsTrue W.tells → opts.now.filters ≡ None → (W.state work.new).folder.filters_md5 ≡ (W.state work.old).folder.filters_md5 }
     ensures entry { IsTrue W.tells → is_unlocked result ≡ true → IsEntryEnd opts.now.filters (W.state work.old).folder C.tells (C.moment clock.old) result }
     ensures unlocked { is_unlocked result ≡ true → (IsTrue W.tells → (W.state work.new).folder ≡ (W.state work.old).folder) × ((W.state work.new).faults ≡ (W.state work.old).faults) }

@@ -15,7 +15,7 @@ ghost use Rattle.bisync_run.specs.EndKinds.{is_good, is_unlocked, may_have_chang
 ghost use Rattle.bisync_run.specs.FolderBases.{HasNextInPlace, IsSetBackTo, KeepsOrTakesNext};
 ghost use Rattle.bisync_run.specs.Grounds.{HasGrounds, IsTold};
 ghost use Rattle.bisync_run.specs.HeldResyncs.{end_of};
-ghost use Rattle.bisync_run.specs.LeftNames.{FallsAs, KeepsOwnLock, LeavesBaseSetBack};
+ghost use Rattle.bisync_run.specs.LeftNames.{FallsAs, KeepsOwnLock, LeavesBaseSetBack, SameOrStands};
 ghost use Rattle.bisync_run.specs.LockNew.{KeepsLockNew};
 ghost use Rattle.bisync_run.specs.Ordinary.{but_ordinary, IsOrdinaryDone, IsGoodOrdinaryEnd, KeepsBaseOrMakesNext, LeavesOrdinaryTrees, TellsCourse};
 ghost use Rattle.bisync_run.specs.OrdinaryEnds.{IsOrdinaryEnd};
@@ -70,6 +70,7 @@ pub fn ordinary<A: Remote, B: Remote, W: Work, C: Clock, S: Sink>(
     ensures falls_as { IsTrue W.tells → (Rose (W.state work.old).faults (W.state work.new).faults → ⊥) → IfErr result (λ _. FallsAs (W.state work.old).folder (W.state work.new).folder) }
     ensures own_lock { IsTrue W.tells → KeepsOwnLock opts.now.max_lock C.tells (C.moment clock.old) (W.state work.old).folder.lock (W.state work.new).folder.lock }
     ensures set_back { IsTrue A.tells → IsTrue B.tells → IsTrue W.tells → LeavesBaseSetBack limits.now (compare_in opts.now.compare (A.state one.old).window (B.state two.old).window) (W.state work.old).folder (by_side (A.state one.old) (B.state two.old)) (W.state work.new).folder (by_side (A.state one.new) (B.state two.new)) }
+    ensures stands { IsTrue W.tells → SameOrStands limits.now (end_of result) (W.state work.old).folder (W.state work.new).folder (KeepsTree A.tells (A.state one.old) (A.state one.new) × KeepsTree B.tells (B.state two.old) (B.state two.new)) }
     ensures names { IsTrue W.tells → HoldsOwn limits.now.listing (compare_in opts.now.compare (A.state one.old).window (B.state two.old).window) (W.state work.old).folder (W.state work.new).folder }
     ensures folder_next { IsTrue W.tells → opts.now.dry_run ≡ false → opts.now.check_sync ≢ CheckSync.Only → OnOk result (HasNextInPlace limits.now (compare_in opts.now.compare (A.state one.old).window (B.state two.old).window) (W.state work.old).folder (W.state work.new).folder × IsSetBackTo limits.now (W.state work.old).folder (W.state work.new).folder) }
     ensures well { IfOk result (λ end. is_good end ≡ true) }

@@ -11,7 +11,7 @@ ghost use Rattle.bisync_device.specs.WorkFolder.{WorkFolder, IsSynced, IsSettled
 ghost use Rattle.bisync_transfer.specs.StepTrees.{AreDone};
 ghost use Rattle.bisync_work.specs.declared.bases.Pair.TheVariants.{Old};
 ghost use Rattle.bisync_work.specs.Base.{Base, HasBaseIn, IsBase};
-ghost use Rattle.bisync_work.specs.Moves.{KeepsBase};
+ghost use Rattle.bisync_work.specs.Moves.{KeepsBase, SameListings};
 ghost use Rattle.bisync_work.specs.Stamps.{IsNewStamp};
 ghost use Rattle.bisync_work.specs.WorkCalls.{AreWorkCalls};
 ghost use Rattle.bisync_run.specs.CountedChanges.{HasCounted};
@@ -43,7 +43,7 @@ fn write_ordinary<W: Work>(work: &mut W, prepared: &Prepared, pair: Pair) -> Res
     ensures settled { IsTrue W.tells → IsSettled (W.state work.old).folder → IsSettled (W.state work.new).folder }
     ensures rest { IsTrue W.tells → but_listings (W.state work.new).folder ≡ but_listings (W.state work.old).folder }
     ensures set_back { IsTrue W.tells → (limit : ℕ) (before : Base) → IsPrepared limit (W.state work.old).folder pair before prepared.now → OnOk result (IsSetBack limit before prepared.now (W.state work.new).folder) }
-    ensures names { IsTrue W.tells → (limit : ℕ) (compare : Compare) (k : WorkFolder) → HoldsOwn limit compare k (W.state work.old).folder → HoldsOwn limit compare k (W.state work.new).folder }
+    ensures names { IsTrue W.tells → (limit : ℕ) (compare : Compare) (k : WorkFolder) → SameListings k (W.state work.old).folder → HoldsOwn limit compare k (W.state work.new).folder }
     ensures falls_as { IsTrue W.tells → OnOk result (FallsAs (W.state work.old).folder (W.state work.new).folder) }
     ensures synced1 { IsTrue W.tells → OnOk result (IsSynced (W.state work.new).folder.one_new) }
     ensures synced2 { IsTrue W.tells → OnOk result (IsSynced (W.state work.new).folder.two_new) }
@@ -81,7 +81,7 @@ pub fn carry_out_ordinary<A: Remote, B: Remote, W: Work, C: Clock>(
     ensures set_back { IsTrue A.tells → IsTrue B.tells → IsTrue W.tells → (limit : ℕ) (before : Base) → IsPrepared limit (W.state work.old).folder pair before prepared
         → AreUntouched (by_side (A.state one.old) (B.state two.old)) (by_side (A.state one.new) (B.state two.new)) ⊎ (HasBaseIn limit (W.state work.new).folder Old before ⊎ IsBase limit (W.state work.new).folder (Some (next_base prepared))) }
     ensures names { IsTrue W.tells → (limit : ℕ) (before : Base) (k : WorkFolder) → IsPrepared limit (W.state work.old).folder pair before prepared → IsNewStamp limit k prepared.stamp
-        → HoldsOwn limit prepared.compare k (W.state work.old).folder → HoldsOwn limit prepared.compare k (W.state work.new).folder }
+        → SameListings k (W.state work.old).folder → HoldsOwn limit prepared.compare k (W.state work.new).folder }
     ensures stands { IsTrue W.tells → (limit : ℕ) (before : Base) → IsPrepared limit (W.state work.old).folder pair before prepared → IfErr result (λ end. IsSideEnd end → HasBaseIn limit (W.state work.new).folder Old before) }
     ensures next_set { IsTrue W.tells → (limit : ℕ) (before : Base) → IsPrepared limit (W.state work.old).folder pair before prepared → OnOk result (IsNextSet limit before prepared (W.state work.new).folder) }
     ensures done { IsTrue A.tells → IsTrue B.tells → OnOk result (AreDone prepared.plan.steps.items (by_side (A.state one.old) (B.state two.old)) (by_side (A.state one.new) (B.state two.new))) }

@@ -6,6 +6,7 @@ ghost use Rattle.bisync_model.specs.Trees.{by_side};
 ghost use Rattle.bisync_model.specs.Changes.{changes_of};
 ghost use Rattle.bisync_plan.specs.Plans.{AreWritable, header_of};
 ghost use Rattle.bisync_device.specs.Faults.{Rose};
+ghost use Rattle.bisync_device.specs.Remote.{KeepsTree};
 ghost use Rattle.bisync_device.specs.WorkFolder.{WorkFolder, IsSettled};
 ghost use Rattle.bisync_transfer.specs.StepTrees.{AreDone};
 ghost use Rattle.bisync_work.specs.Base.{Base, IsBase, HasNoBase};
@@ -59,7 +60,7 @@ pub fn carry_out<A: Remote, B: Remote, W: Work, C: Clock>(
     ensures names { IsTrue W.tells → (limit : ℕ) (k : WorkFolder) → AreWithin limit prepared → IsNewStamp limit k prepared.stamp
         → HoldsOwn limit prepared.compare k (W.state work.old).folder → HoldsOwn limit prepared.compare k (W.state work.new).folder }
     ensures digest_late { IsTrue W.tells → (limit : ℕ) → limit < 2 ^ 64 → AreWithin limit prepared → (base : Option Base) → IsBase limit (W.state work.old).folder base
-        → (IsBase limit (W.state work.new).folder base × ((W.state work.new).folder.filters_md5 ≡ (W.state work.old).folder.filters_md5))
+        → (IsBase limit (W.state work.new).folder base × (KeepsTree A.tells (A.state one.old) (A.state one.new) × KeepsTree B.tells (B.state two.old) (B.state two.new)) × ((W.state work.new).folder.filters_md5 ≡ (W.state work.old).folder.filters_md5))
         ⊎ (HasNoBase limit (W.state work.new).folder ⊎ (IsBase limit (W.state work.new).folder (Some (next_base prepared)) × ((W.state work.new).folder.filters_md5 ≡ stored digest.now (W.state work.old).folder.filters_md5))) }
     ensures carried_out { IsTrue W.tells → (limit : ℕ) → limit < 2 ^ 64 → AreWithin limit prepared → OnOk result (AreCarriedOut limit prepared digest.now (W.state work.old).folder (W.state work.new).folder) }
     ensures done { IsTrue A.tells → IsTrue B.tells → OnOk result (AreDone prepared.plan.steps.items (by_side (A.state one.old) (B.state two.old)) (by_side (A.state one.new) (B.state two.new))) }

@@ -45,9 +45,6 @@ returns-clause-trees g c = of_run _ _ _ _ c.in-Ok-Run.ensures.read.ok c.in-Ok-Ru
 pub returns-clause-kept : goal.returns-clause-kept
 returns-clause-kept g c = of_run _ _ _ _ c.in-Ok-Run.ensures.read.ok c.in-Ok-Run.field-0-is c.run-end.ensures.kept
 
-pub returns-clause-fallen : goal.returns-clause-fallen
-returns-clause-fallen g c = of_run _ _ _ _ c.in-Ok-Run.ensures.read.ok c.in-Ok-Run.field-0-is c.run-end.ensures.fallen
-
 pub returns-clause-dry_one : goal.returns-clause-dry_one
 returns-clause-dry_one g c = of_run _ _ _ _ c.in-Ok-Run.ensures.read.ok c.in-Ok-Run.field-0-is c.run-end.ensures.dry_one
 
@@ -193,6 +190,9 @@ returns-clause-digest_late g c = of_run _ _ _ _ c.in-Ok-Run.ensures.read.ok c.in
 
 pub returns-in-Err-OutOfMemory-clause-names : goal.returns-in-Err-OutOfMemory-clause-names
 returns-in-Err-OutOfMemory-clause-names g c = names_same (task_in c.args.words.now) _ REAL (g.W.Work.state c.args.work.now).folder (by_side (g.A.Remote.state c.args.one.now) (g.B.Remote.state c.args.two.now))
+
+pub returns-clause-stands : goal.returns-clause-stands
+returns-clause-stands g c = of_run _ _ _ _ c.in-Ok-Run.ensures.read.ok c.in-Ok-Run.field-0-is c.run-end.ensures.stands
 
 pub returns-clause-names : goal.returns-clause-names
 returns-clause-names g c = of_run _ _ _ _ c.in-Ok-Run.ensures.read.ok c.in-Ok-Run.field-0-is c.run-end.ensures.names

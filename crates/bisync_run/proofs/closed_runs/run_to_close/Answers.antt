@@ -25,7 +25,7 @@ use Rattle.bisync_run.proofs.FolderBases.{folder_base_closed, folder_base_unlock
 use Rattle.bisync_run.proofs.LockNewLaws.{lock_new_twice, lock_new_same}
 use Rattle.bisync_run.proofs.LockedFolders.{base_past}
 use Rattle.bisync_run.proofs.OrdinaryClosed.{base_kept, falls_resilient, rest_closed, rest_locked, run_base_closed, run_done_closed, way_before}
-use Rattle.bisync_run.proofs.OrdinaryEndsClosed.{good_before, ordinary_closed, run_answers_closed, run_tells_closed, tells_unlocked, unlocked_is_ordinary}
+use Rattle.bisync_run.proofs.OrdinaryEndsClosed.{good_before, ordinary_closed, run_answers_closed, run_tells_closed, stands_by_close, tells_unlocked, unlocked_is_ordinary}
 use Rattle.bisync_run.proofs.OwnLocks.{own_closed as own_lock_closed}
 use Rattle.bisync_run.proofs.OwnNames.{locked_own, own_before, own_same}
 use Rattle.bisync_run.proofs.RunEnds.{after_good_was_ok, caused_closed}
@@ -50,11 +50,6 @@ returns-in-Err-clause-set_aside g c mode mode_is work dry good = absurd (unlocke
 
 pub returns-in-Err-clause-only : goal.returns-in-Err-clause-only
 returns-in-Err-clause-only g c mode mode_is = unlocked_is_own c.args.opts.now c.in-Err.end c.in-Err.ensures.kind
-
-pub returns-in-Err-clause-fallen : goal.returns-in-Err-clause-fallen
-returns-in-Err-clause-fallen g c work fell never =
-    absurd (never (unlocked_fell c.args.opts.now.filters (counts 0 0 (g.W.Work.state c.args.work.now).faults 0) (counts 0 0 (g.W.Work.state c.enter.new.work).faults 0)
-    c.args.opts.now.resilient c.args.opts.now.dry_run c.in-Err.end c.in-Err.ensures.kind c.in-Err.ensures.causes.fault fell))
 
 pub returns-in-Err-clause-freed : goal.returns-in-Err-clause-freed
 returns-in-Err-clause-freed g c work freed = absurd (unlocked_not_after_good c.args.opts.now.filters c.in-Err.end c.in-Err.ensures.kind (freed_is_after_good c.in-Err.end freed))
@@ -146,11 +141,6 @@ pub returns-clause-kept : goal.returns-clause-kept
 returns-clause-kept g c work early =
     kept_early c.args.opts.now.resilient c.args.opts.now.dry_run c.held-ended.result c.close.result c.close.ensures.end _ _ (g.W.Work.state c.held-ended.new.work).folder _ (c.in-Ok.ensures.others work) (c.close.ensures.fall work) (c.close.ensures.kept work)
     (c.held-ended.ensures.early (early_closed c.held-ended.result c.close.result c.close.ensures.end early) work)
-
-pub returns-clause-fallen : goal.returns-clause-fallen
-returns-clause-fallen g c work fell never =
-    c.close.ensures.fallen work (fell_closed c.args.opts.now.resilient c.args.opts.now.dry_run c.held-ended.result c.close.result c.held-ended.ensures.well c.close.ensures.end fell)
-    (no_rise_last _ (g.W.Work.state c.enter.new.work).faults (g.W.Work.state c.held-ended.new.work).faults _ never c.in-Ok.ensures.causes.later.work c.held-ended.ensures.causes.later.work)
 
 pub returns-clause-freed : goal.returns-clause-freed
 returns-clause-freed g c work freed =
@@ -392,6 +382,15 @@ returns-clause-set_back g c none one two work =
     old_closed c.args.limits.now _ (g.W.Work.state c.args.work.now).folder (g.W.Work.state c.enter.new.work).folder (g.W.Work.state c.held-ended.new.work).folder (g.W.Work.state c.close.new.work).folder (c.in-Ok.ensures.others work) (c.close.ensures.closes work) (by_side (g.A.Remote.state c.args.one.now) (g.B.Remote.state c.args.two.now)) (by_side (g.A.Remote.state c.held-ended.new.one) (g.B.Remote.state c.held-ended.new.two))
     (c.held-ended.ensures.set_back none one two work)
 
+pub returns-in-Err-clause-stands : goal.returns-in-Err-clause-stands
+returns-in-Err-clause-stands g c none work = inl ((keeps_tree_same g.A.Remote.tells (g.A.Remote.state c.args.one.now), keeps_tree_same g.B.Remote.tells (g.B.Remote.state c.args.two.now)), kept_unlocked _ _ _ (c.in-Err.ensures.others work))
+
+pub returns-clause-stands : goal.returns-clause-stands
+returns-clause-stands g c none work =
+    ⊎_elim (λ early. inl (early.0, kept_early c.args.opts.now.resilient c.args.opts.now.dry_run c.held-ended.result c.close.result c.close.ensures.end (g.W.Work.state c.args.work.now).folder _ _ _ (c.in-Ok.ensures.others work) (c.close.ensures.fall work) (c.close.ensures.kept work) early.1))
+    (λ stands. inr (stands_by_close c.args.limits.now (g.W.Work.state c.args.work.now).folder _ _ _ (c.in-Ok.ensures.others work) (c.close.ensures.closes work) c.held-ended.result c.close.result c.close.ensures.end stands))
+    (c.held-ended.ensures.stands none work)
+
 pub returns-in-Err-clause-names : goal.returns-in-Err-clause-names
 returns-in-Err-clause-names g c work = locked_own c.args.limits.now.listing _ _ _ _ (c.in-Err.ensures.others work) (own_same c.args.limits.now.listing _ (g.W.Work.state c.args.work.now).folder)
 
@@ -429,11 +428,12 @@ returns-clause-resync_fell g c mode mode_is work never bad =
     c.held-ended.ensures.well c.close.ensures.end bad (c.in-Ok.ensures.others work) (c.close.ensures.closes work) (c.held-ended.ensures.fell mode mode_is work still) (c.close.ensures.kept work) (λ falls. c.close.ensures.fell work falls last)
 
 pub returns-in-Err-clause-digest_late : goal.returns-in-Err-clause-digest_late
-returns-in-Err-clause-digest_late g c mode mode_is work base is = inl (base_past (g.W.Work.state c.args.work.now).folder (g.W.Work.state c.enter.new.work).folder (c.in-Err.ensures.others work) c.args.limits.now.listing base is, ap (λ (w : WorkFolder). w.filters_md5) (c.in-Err.ensures.others work).rest)
+returns-in-Err-clause-digest_late g c mode mode_is work base is =
+    inl (base_past (g.W.Work.state c.args.work.now).folder (g.W.Work.state c.enter.new.work).folder (c.in-Err.ensures.others work) c.args.limits.now.listing base is, (keeps_tree_same g.A.Remote.tells (g.A.Remote.state c.args.one.now), keeps_tree_same g.B.Remote.tells (g.B.Remote.state c.args.two.now)), ap (λ (w : WorkFolder). w.filters_md5) (c.in-Err.ensures.others work).rest)
 
 pub returns-clause-digest_late : goal.returns-clause-digest_late
 returns-clause-digest_late g c mode mode_is work =
-    late_closed c.args.limits.now _ (g.W.Work.state c.args.work.now).folder (g.W.Work.state c.enter.new.work).folder (g.W.Work.state c.held-ended.new.work).folder (g.W.Work.state c.close.new.work).folder (c.in-Ok.ensures.others work) (c.close.ensures.closes work) c.args.opts.now
+    late_closed c.args.limits.now _ (g.W.Work.state c.args.work.now).folder (g.W.Work.state c.enter.new.work).folder (g.W.Work.state c.held-ended.new.work).folder (g.W.Work.state c.close.new.work).folder (c.in-Ok.ensures.others work) (c.close.ensures.closes work) _ c.args.opts.now
     (by_side (g.A.Remote.state c.args.one.now) (g.B.Remote.state c.args.two.now)) refl (record { rules = c.in-Ok.entered.rules; digest = c.in-Ok.entered.digest; are = c.in-Ok.ensures.rules (inl work) }) (c.held-ended.ensures.digest_late mode mode_is work)
 
 pub returns-clause-causes : goal.returns-clause-causes

@@ -11,7 +11,7 @@ use Rattle.bisync_run.proofs.CauseLaws.{fails}
 use Rattle.bisync_run.proofs.CountedRuns.{counted_since}
 use Rattle.bisync_run.proofs.DoneSteps.{looked_told, untouched_same}
 use Rattle.bisync_run.proofs.EndCases.{false_true, step_may_change, told_device}
-use Rattle.bisync_run.proofs.FallsAsLaws.{falls_as_held}
+use Rattle.bisync_run.proofs.FallsAsLaws.{falls_as_held, keeps_tree_same}
 use Rattle.bisync_run.proofs.FolderBases.{kept_or_next, next_in_place, ready_to}
 use Rattle.bisync_run.proofs.OwnNames.{kept_own, ordinary_own}
 use Rattle.bisync_run.proofs.HeldLaws.{untouched, same_windows, are_within}
@@ -60,8 +60,7 @@ returns-in-Err-plan_lines-clause-trees g c one two work =
 
 pub returns-in-Err-plan_lines-clause-answers : goal.returns-in-Err-plan_lines-clause-answers
 returns-in-Err-plan_lines-clause-answers g c one two work =
-    let f = (g.W.Work.state c.args.work.now).folder in let more = not_only c.args.opts.now.check_sync (sym c.is_only.ensures ∙ c.if-is_only.false) in
-    let look = c.in-Ok-look_ordinary.ensures.look one two f c.args.entered.now.digest (c.in-Ok.ensures.starts work) more in
+    let f = (g.W.Work.state c.args.work.now).folder in let more = not_only c.args.opts.now.check_sync (sym c.is_only.ensures ∙ c.if-is_only.false) in let look = c.in-Ok-look_ordinary.ensures.look one two f c.args.entered.now.digest (c.in-Ok.ensures.starts work) more in
     look.course
 
 pub returns-in-Err-plan_lines-clause-causes : goal.returns-in-Err-plan_lines-clause-causes
@@ -73,21 +72,18 @@ returns-in-Err-plan_lines-clause-causes g c =
 
 pub returns-then-opts-clause-answers : goal.returns-then-opts-clause-answers
 returns-then-opts-clause-answers g c one two work =
-    let f = (g.W.Work.state c.args.work.now).folder in let more = not_only c.args.opts.now.check_sync (sym c.is_only.ensures ∙ c.if-is_only.false) in
-    let look = c.in-Ok-look_ordinary.ensures.look one two f c.args.entered.now.digest (c.in-Ok.ensures.starts work) more in
+    let f = (g.W.Work.state c.args.work.now).folder in let more = not_only c.args.opts.now.check_sync (sym c.is_only.ensures ∙ c.if-is_only.false) in let look = c.in-Ok-look_ordinary.ensures.look one two f c.args.entered.now.digest (c.in-Ok.ensures.starts work) more in
     look.course
 
 pub returns-then-opts-clause-accepted : goal.returns-then-opts-clause-accepted
 returns-then-opts-clause-accepted g c one two work =
-    let f = (g.W.Work.state c.args.work.now).folder in let more = not_only c.args.opts.now.check_sync (sym c.is_only.ensures ∙ c.if-is_only.false) in
-    let look = c.in-Ok-look_ordinary.ensures.look one two f c.args.entered.now.digest (c.in-Ok.ensures.starts work) more in
+    let f = (g.W.Work.state c.args.work.now).folder in let more = not_only c.args.opts.now.check_sync (sym c.is_only.ensures ∙ c.if-is_only.false) in let look = c.in-Ok-look_ordinary.ensures.look one two f c.args.entered.now.digest (c.in-Ok.ensures.starts work) more in
     inl look.course
 
 pub returns-then-opts-clause-report : goal.returns-then-opts-clause-report
 returns-then-opts-clause-report g c one two work sink =
     let a = g.A.Remote.state c.args.one.now in let b = g.B.Remote.state c.args.two.now in let f = (g.W.Work.state c.args.work.now).folder in
-    let more = not_only c.args.opts.now.check_sync (sym c.is_only.ensures ∙ c.if-is_only.false) in
-    let look = c.in-Ok-look_ordinary.ensures.look one two f c.args.entered.now.digest (c.in-Ok.ensures.starts work) more in
+    let more = not_only c.args.opts.now.check_sync (sym c.is_only.ensures ∙ c.if-is_only.false) in let look = c.in-Ok-look_ordinary.ensures.look one two f c.args.entered.now.digest (c.in-Ok.ensures.starts work) more in
     inr (told_held c.args.opts.now c.args.limits.now c.args.entered.now.rules c.args.entered.now.digest a b f c.in-Ok.started.stamp c.in-Ok.started.pair c.in-Ok-look_ordinary.look look (g.S.Sink.state c.args.sink.now).bytes (g.S.Sink.state c.plan_lines.new.sink).bytes (c.in-Ok-plan_lines.ensures.bytes sink))
 
 pub returns-then-opts-clause-causes : goal.returns-then-opts-clause-causes
@@ -103,8 +99,7 @@ returns-in-Ok-carry_out_ordinary-clause-base g c one two work =
     let a = g.A.Remote.state c.args.one.now in let b = g.B.Remote.state c.args.two.now in let a2 = g.A.Remote.state c.look_ordinary.new.one in let b2 = g.B.Remote.state c.look_ordinary.new.two in
     let looked = untouched a b a2 b2 (c.in-Ok-look_ordinary.ensures.one.tree one) (c.in-Ok-look_ordinary.ensures.two.tree two) in
     let windows = same_windows a b a2 b2 c.in-Ok-look_ordinary.ensures.one.window c.in-Ok-look_ordinary.ensures.two.window in let f = (g.W.Work.state c.args.work.now).folder in
-    let more = not_only c.args.opts.now.check_sync (sym c.is_only.ensures ∙ c.if-is_only.false) in
-    let look = c.in-Ok-look_ordinary.ensures.look one two f c.args.entered.now.digest (c.in-Ok.ensures.starts work) more in let small : c.args.limits.now.listing < 2 ^ 64 = omega arith in
+    let more = not_only c.args.opts.now.check_sync (sym c.is_only.ensures ∙ c.if-is_only.false) in let look = c.in-Ok-look_ordinary.ensures.look one two f c.args.entered.now.digest (c.in-Ok.ensures.starts work) more in let small : c.args.limits.now.listing < 2 ^ 64 = omega arith in
     let fits = are_within c.args.limits.now (prepared_of c.in-Ok.started.stamp c.in-Ok-look_ordinary.look) c.in-Ok-look_ordinary.ensures.within1 c.in-Ok-look_ordinary.ensures.within2 in
     let ready = prepared_held c.args.opts.now c.args.limits.now c.args.entered.now.rules c.args.entered.now.digest a b f c.in-Ok.started.stamp c.in-Ok.started.pair c.in-Ok-look_ordinary.look look a2 b2 looked windows (g.W.Work.state c.start.new.work).folder (c.in-Ok.ensures.folder work) small fits in
     base_held c.args.opts.now c.args.limits.now c.args.entered.now.rules c.args.entered.now.digest a b f c.in-Ok.started.stamp c.in-Ok.started.pair c.in-Ok-look_ordinary.look look a2 b2 looked windows (g.W.Work.state c.start.new.work).folder (c.in-Ok.ensures.folder work) (g.W.Work.state c.carry_out_ordinary.new.work).folder
@@ -116,8 +111,7 @@ returns-in-Ok-carry_out_ordinary-clause-trees g c one two work =
     let a = g.A.Remote.state c.args.one.now in let b = g.B.Remote.state c.args.two.now in let a2 = g.A.Remote.state c.look_ordinary.new.one in let b2 = g.B.Remote.state c.look_ordinary.new.two in
     let looked = untouched a b a2 b2 (c.in-Ok-look_ordinary.ensures.one.tree one) (c.in-Ok-look_ordinary.ensures.two.tree two) in
     let windows = same_windows a b a2 b2 c.in-Ok-look_ordinary.ensures.one.window c.in-Ok-look_ordinary.ensures.two.window in let f = (g.W.Work.state c.args.work.now).folder in
-    let more = not_only c.args.opts.now.check_sync (sym c.is_only.ensures ∙ c.if-is_only.false) in
-    let look = c.in-Ok-look_ordinary.ensures.look one two f c.args.entered.now.digest (c.in-Ok.ensures.starts work) more in
+    let more = not_only c.args.opts.now.check_sync (sym c.is_only.ensures ∙ c.if-is_only.false) in let look = c.in-Ok-look_ordinary.ensures.look one two f c.args.entered.now.digest (c.in-Ok.ensures.starts work) more in
     trees_held c.args.opts.now c.args.limits.now c.args.entered.now.rules c.args.entered.now.digest a b f c.in-Ok.started.stamp c.in-Ok.started.pair c.in-Ok-look_ordinary.look look a2 b2 looked windows c.if-opts.false
     (g.W.Work.state c.carry_out_ordinary.new.work).folder (by_side (g.A.Remote.state c.carry_out_ordinary.new.one) (g.B.Remote.state c.carry_out_ordinary.new.two)) (c.in-Ok-carry_out_ordinary.ensures.part one two)
 
@@ -136,20 +130,17 @@ returns-in-Ok-carry_out_ordinary-clause-done g c one two work dry more =
 pub returns-in-Ok-carry_out_ordinary-clause-good : goal.returns-in-Ok-carry_out_ordinary-clause-good
 returns-in-Ok-carry_out_ordinary-clause-good g c one two work =
     let a = g.A.Remote.state c.args.one.now in let b = g.B.Remote.state c.args.two.now in let f = (g.W.Work.state c.args.work.now).folder in
-    let more = not_only c.args.opts.now.check_sync (sym c.is_only.ensures ∙ c.if-is_only.false) in
-    let look = c.in-Ok-look_ordinary.ensures.look one two f c.args.entered.now.digest (c.in-Ok.ensures.starts work) more in
+    let more = not_only c.args.opts.now.check_sync (sym c.is_only.ensures ∙ c.if-is_only.false) in let look = c.in-Ok-look_ordinary.ensures.look one two f c.args.entered.now.digest (c.in-Ok.ensures.starts work) more in
     numbers_held c.args.opts.now c.args.limits.now c.args.entered.now.rules c.args.entered.now.digest a b f c.in-Ok.started.stamp c.in-Ok.started.pair c.in-Ok-look_ordinary.look look c.if-opts.false more c.in-Ok-carry_out_ordinary.changes.one c.in-Ok-carry_out_ordinary.changes.two c.in-Ok-carry_out_ordinary.ensures.changes.0 c.in-Ok-carry_out_ordinary.ensures.changes.1
 
 pub returns-in-Ok-carry_out_ordinary-clause-answers : goal.returns-in-Ok-carry_out_ordinary-clause-answers
 returns-in-Ok-carry_out_ordinary-clause-answers g c one two work =
-    let f = (g.W.Work.state c.args.work.now).folder in let more = not_only c.args.opts.now.check_sync (sym c.is_only.ensures ∙ c.if-is_only.false) in
-    let look = c.in-Ok-look_ordinary.ensures.look one two f c.args.entered.now.digest (c.in-Ok.ensures.starts work) more in
+    let f = (g.W.Work.state c.args.work.now).folder in let more = not_only c.args.opts.now.check_sync (sym c.is_only.ensures ∙ c.if-is_only.false) in let look = c.in-Ok-look_ordinary.ensures.look one two f c.args.entered.now.digest (c.in-Ok.ensures.starts work) more in
     look.course
 
 pub returns-in-Ok-carry_out_ordinary-clause-accepted : goal.returns-in-Ok-carry_out_ordinary-clause-accepted
 returns-in-Ok-carry_out_ordinary-clause-accepted g c one two work =
-    let f = (g.W.Work.state c.args.work.now).folder in let more = not_only c.args.opts.now.check_sync (sym c.is_only.ensures ∙ c.if-is_only.false) in
-    let look = c.in-Ok-look_ordinary.ensures.look one two f c.args.entered.now.digest (c.in-Ok.ensures.starts work) more in
+    let f = (g.W.Work.state c.args.work.now).folder in let more = not_only c.args.opts.now.check_sync (sym c.is_only.ensures ∙ c.if-is_only.false) in let look = c.in-Ok-look_ordinary.ensures.look one two f c.args.entered.now.digest (c.in-Ok.ensures.starts work) more in
     inl look.course
 
 pub returns-in-Ok-carry_out_ordinary-clause-lock_new : goal.returns-in-Ok-carry_out_ordinary-clause-lock_new
@@ -159,8 +150,7 @@ returns-in-Ok-carry_out_ordinary-clause-lock_new g c work sure =
 pub returns-in-Ok-carry_out_ordinary-clause-report : goal.returns-in-Ok-carry_out_ordinary-clause-report
 returns-in-Ok-carry_out_ordinary-clause-report g c one two work sink =
     let a = g.A.Remote.state c.args.one.now in let b = g.B.Remote.state c.args.two.now in let f = (g.W.Work.state c.args.work.now).folder in
-    let more = not_only c.args.opts.now.check_sync (sym c.is_only.ensures ∙ c.if-is_only.false) in
-    let look = c.in-Ok-look_ordinary.ensures.look one two f c.args.entered.now.digest (c.in-Ok.ensures.starts work) more in
+    let more = not_only c.args.opts.now.check_sync (sym c.is_only.ensures ∙ c.if-is_only.false) in let look = c.in-Ok-look_ordinary.ensures.look one two f c.args.entered.now.digest (c.in-Ok.ensures.starts work) more in
     inr (told_held c.args.opts.now c.args.limits.now c.args.entered.now.rules c.args.entered.now.digest a b f c.in-Ok.started.stamp c.in-Ok.started.pair c.in-Ok-look_ordinary.look look (g.S.Sink.state c.args.sink.now).bytes (g.S.Sink.state c.plan_lines.new.sink).bytes (c.in-Ok-plan_lines.ensures.bytes sink))
 
 pub returns-in-Ok-carry_out_ordinary-clause-causes : goal.returns-in-Ok-carry_out_ordinary-clause-causes
@@ -177,8 +167,7 @@ returns-clause-base g c one two work =
     let a = g.A.Remote.state c.args.one.now in let b = g.B.Remote.state c.args.two.now in let a2 = g.A.Remote.state c.look_ordinary.new.one in let b2 = g.B.Remote.state c.look_ordinary.new.two in
     let looked = untouched a b a2 b2 (c.in-Ok-look_ordinary.ensures.one.tree one) (c.in-Ok-look_ordinary.ensures.two.tree two) in
     let windows = same_windows a b a2 b2 c.in-Ok-look_ordinary.ensures.one.window c.in-Ok-look_ordinary.ensures.two.window in let f = (g.W.Work.state c.args.work.now).folder in
-    let more = not_only c.args.opts.now.check_sync (sym c.is_only.ensures ∙ c.if-is_only.false) in
-    let look = c.in-Ok-look_ordinary.ensures.look one two f c.args.entered.now.digest (c.in-Ok.ensures.starts work) more in let small : c.args.limits.now.listing < 2 ^ 64 = omega arith in
+    let more = not_only c.args.opts.now.check_sync (sym c.is_only.ensures ∙ c.if-is_only.false) in let look = c.in-Ok-look_ordinary.ensures.look one two f c.args.entered.now.digest (c.in-Ok.ensures.starts work) more in let small : c.args.limits.now.listing < 2 ^ 64 = omega arith in
     let fits = are_within c.args.limits.now (prepared_of c.in-Ok.started.stamp c.in-Ok-look_ordinary.look) c.in-Ok-look_ordinary.ensures.within1 c.in-Ok-look_ordinary.ensures.within2 in
     let ready = prepared_held c.args.opts.now c.args.limits.now c.args.entered.now.rules c.args.entered.now.digest a b f c.in-Ok.started.stamp c.in-Ok.started.pair c.in-Ok-look_ordinary.look look a2 b2 looked windows (g.W.Work.state c.start.new.work).folder (c.in-Ok.ensures.folder work) small fits in
     base_held c.args.opts.now c.args.limits.now c.args.entered.now.rules c.args.entered.now.digest a b f c.in-Ok.started.stamp c.in-Ok.started.pair c.in-Ok-look_ordinary.look look a2 b2 looked windows (g.W.Work.state c.start.new.work).folder (c.in-Ok.ensures.folder work) (g.W.Work.state c.carry_out_ordinary.new.work).folder
@@ -190,8 +179,7 @@ returns-clause-trees g c one two work =
     let a = g.A.Remote.state c.args.one.now in let b = g.B.Remote.state c.args.two.now in let a2 = g.A.Remote.state c.look_ordinary.new.one in let b2 = g.B.Remote.state c.look_ordinary.new.two in
     let looked = untouched a b a2 b2 (c.in-Ok-look_ordinary.ensures.one.tree one) (c.in-Ok-look_ordinary.ensures.two.tree two) in
     let windows = same_windows a b a2 b2 c.in-Ok-look_ordinary.ensures.one.window c.in-Ok-look_ordinary.ensures.two.window in let f = (g.W.Work.state c.args.work.now).folder in
-    let more = not_only c.args.opts.now.check_sync (sym c.is_only.ensures ∙ c.if-is_only.false) in
-    let look = c.in-Ok-look_ordinary.ensures.look one two f c.args.entered.now.digest (c.in-Ok.ensures.starts work) more in
+    let more = not_only c.args.opts.now.check_sync (sym c.is_only.ensures ∙ c.if-is_only.false) in let look = c.in-Ok-look_ordinary.ensures.look one two f c.args.entered.now.digest (c.in-Ok.ensures.starts work) more in
     trees_held c.args.opts.now c.args.limits.now c.args.entered.now.rules c.args.entered.now.digest a b f c.in-Ok.started.stamp c.in-Ok.started.pair c.in-Ok-look_ordinary.look look a2 b2 looked windows c.if-opts.false
     (g.W.Work.state c.carry_out_ordinary.new.work).folder (by_side (g.A.Remote.state c.carry_out_ordinary.new.one) (g.B.Remote.state c.carry_out_ordinary.new.two)) (c.in-Err-carry_out_ordinary.ensures.part one two)
 
@@ -202,8 +190,7 @@ returns-clause-answers g c one two work =
     let found = c.in-Err-carry_out_ordinary.ensures.found
     (planned_finds (by_side g.A.Remote.tells g.B.Remote.tells) c.args.opts.now c.args.entered.now.rules a b a2 b2 c.in-Ok.started c.in-Ok-look_ordinary.look
     (looked_told g.A.Remote.tells g.B.Remote.tells a b a2 b2 c.in-Ok-look_ordinary.ensures.one.tree c.in-Ok-look_ordinary.ensures.two.tree) windows c.in-Ok-look_ordinary.ensures.planned) in
-    let more = not_only c.args.opts.now.check_sync (sym c.is_only.ensures ∙ c.if-is_only.false) in
-    let look = c.in-Ok-look_ordinary.ensures.look one two (g.W.Work.state c.args.work.now).folder c.args.entered.now.digest (c.in-Ok.ensures.starts work) more in
+    let more = not_only c.args.opts.now.check_sync (sym c.is_only.ensures ∙ c.if-is_only.false) in let look = c.in-Ok-look_ordinary.ensures.look one two (g.W.Work.state c.args.work.now).folder c.args.entered.now.digest (c.in-Ok.ensures.starts work) more in
     device_answers c.args.opts.now c.args.limits.now (g.W.Work.state c.args.work.now).folder _ c.args.entered.now.digest look.course.plans.one c.in-Err-carry_out_ordinary.end
     (told_device (by_side g.A.Remote.tells g.B.Remote.tells) one two c.in-Err-carry_out_ordinary.end c.in-Err-carry_out_ordinary.ensures.end found)
 
@@ -216,8 +203,7 @@ returns-clause-lock_new g c work (inr never) =
 pub returns-clause-report : goal.returns-clause-report
 returns-clause-report g c one two work sink =
     let a = g.A.Remote.state c.args.one.now in let b = g.B.Remote.state c.args.two.now in let f = (g.W.Work.state c.args.work.now).folder in
-    let more = not_only c.args.opts.now.check_sync (sym c.is_only.ensures ∙ c.if-is_only.false) in
-    let look = c.in-Ok-look_ordinary.ensures.look one two f c.args.entered.now.digest (c.in-Ok.ensures.starts work) more in
+    let more = not_only c.args.opts.now.check_sync (sym c.is_only.ensures ∙ c.if-is_only.false) in let look = c.in-Ok-look_ordinary.ensures.look one two f c.args.entered.now.digest (c.in-Ok.ensures.starts work) more in
     let stands = ordinary_stands c.args.opts.now c.args.limits.now _ c.args.entered.now.digest f (g.W.Work.state c.start.new.work).folder (c.in-Ok.ensures.folder work) c.in-Ok.started (c.in-Ok.ensures.starts work) c.in-Ok-look_ordinary.look
     c.in-Ok-look_ordinary.ensures.compare (omega arith) (are_within c.args.limits.now (prepared_of c.in-Ok.started.stamp c.in-Ok-look_ordinary.look) c.in-Ok-look_ordinary.ensures.within1 c.in-Ok-look_ordinary.ensures.within2)
     c.in-Err-carry_out_ordinary.end (g.W.Work.state c.carry_out_ordinary.new.work).folder (c.in-Err-carry_out_ordinary.ensures.stands work) in
@@ -431,3 +417,30 @@ returns-then-is_only-clause-trees g c one two work = inl (untouched_same (by_sid
 
 pub returns-in-Err-look_ordinary-clause-trees : goal.returns-in-Err-look_ordinary-clause-trees
 returns-in-Err-look_ordinary-clause-trees g c one two work = inl (untouched _ _ _ _ (c.look_ordinary.ensures.one.tree one) (c.look_ordinary.ensures.two.tree two), c.start.ensures.folder work)
+
+pub returns-clause-stands : goal.returns-clause-stands
+returns-clause-stands g c work =
+    inr (ordinary_stands c.args.opts.now c.args.limits.now _ c.args.entered.now.digest (g.W.Work.state c.args.work.now).folder (g.W.Work.state c.start.new.work).folder (c.in-Ok.ensures.folder work) c.in-Ok.started (c.in-Ok.ensures.starts work) c.in-Ok-look_ordinary.look
+    c.in-Ok-look_ordinary.ensures.compare (omega arith) (are_within c.args.limits.now (prepared_of c.in-Ok.started.stamp c.in-Ok-look_ordinary.look) c.in-Ok-look_ordinary.ensures.within1 c.in-Ok-look_ordinary.ensures.within2)
+    c.in-Err-carry_out_ordinary.end (g.W.Work.state c.carry_out_ordinary.new.work).folder (c.in-Err-carry_out_ordinary.ensures.stands work))
+
+pub returns-in-Err-clause-stands : goal.returns-in-Err-clause-stands
+returns-in-Err-clause-stands g c work = inl ((keeps_tree_same g.A.Remote.tells (g.A.Remote.state c.args.one.now), keeps_tree_same g.B.Remote.tells (g.B.Remote.state c.args.two.now)), c.start.ensures.folder work)
+
+pub returns-then-is_only-clause-stands : goal.returns-then-is_only-clause-stands
+returns-then-is_only-clause-stands g c work = inl ((keeps_tree_same g.A.Remote.tells (g.A.Remote.state c.args.one.now), keeps_tree_same g.B.Remote.tells (g.B.Remote.state c.args.two.now)), c.start.ensures.folder work)
+
+pub returns-in-Err-look_ordinary-clause-stands : goal.returns-in-Err-look_ordinary-clause-stands
+returns-in-Err-look_ordinary-clause-stands g c work = inl ((c.look_ordinary.ensures.one.tree, c.look_ordinary.ensures.two.tree), c.start.ensures.folder work)
+
+pub returns-in_default-clause-stands : goal.returns-in_default-clause-stands
+returns-in_default-clause-stands g c work = inl ((c.look_ordinary.ensures.one.tree, c.look_ordinary.ensures.two.tree), c.start.ensures.folder work)
+
+pub returns-in-Err-plan_lines-clause-stands : goal.returns-in-Err-plan_lines-clause-stands
+returns-in-Err-plan_lines-clause-stands g c work = inl ((c.look_ordinary.ensures.one.tree, c.look_ordinary.ensures.two.tree), c.start.ensures.folder work)
+
+pub returns-then-opts-clause-stands : goal.returns-then-opts-clause-stands
+returns-then-opts-clause-stands g c work = inl ((c.look_ordinary.ensures.one.tree, c.look_ordinary.ensures.two.tree), c.start.ensures.folder work)
+
+pub returns-in-Ok-carry_out_ordinary-clause-stands : goal.returns-in-Ok-carry_out_ordinary-clause-stands
+returns-in-Ok-carry_out_ordinary-clause-stands g c work = inr (λ side before is. absurd side)

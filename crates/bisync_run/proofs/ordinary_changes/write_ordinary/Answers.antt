@@ -1,5 +1,5 @@
 use Rattle.bisync_run.proofs.FallsAsLaws.{written_falls_as}
-use Rattle.bisync_run.proofs.OwnNames.{back_own, written_own}
+use Rattle.bisync_run.proofs.OwnNames.{back_own, unchanged_own, written_own}
 use Rattle.bisync_run.proofs.OrdinaryWrites.{new_keeps, back_keeps, written_past, one_synced, two_synced, set_back}
 use Rattle.bisync_run.proofs.ordinary_changes.write_ordinary.Goals as goal
 
@@ -40,7 +40,7 @@ returns-clause-falls_as g c = λ t.
     (c.write_new.ensures.rest t) (c.in_ok-set_back.ensures.done t)
 
 pub returns-in_err-write_new-clause-names : goal.returns-in_err-write_new-clause-names
-returns-in_err-write_new-clause-names g c = λ t limit compare k. written_own limit compare k (g.W.Work.state c.args.work.now).folder (g.W.Work.state c.write_new.new.work).folder (c.write_new.ensures.rest t)
+returns-in_err-write_new-clause-names g c = λ t limit compare k same. written_own limit compare k (g.W.Work.state c.args.work.now).folder (g.W.Work.state c.write_new.new.work).folder (c.write_new.ensures.rest t) (unchanged_own limit compare k _ same)
 
 pub returns-in_err-set_back-clause-names : goal.returns-in_err-set_back-clause-names
 returns-in_err-set_back-clause-names g c = λ t limit compare k.

@@ -1,12 +1,11 @@
 use Rattle.std.proofs.Common.{◌∙◌, inl, inr, ap, refl, ⊎_elim}
 use Rattle.bisync_device.specs.WorkFolder.{WorkFolder}
 use Rattle.bisync_run.specs.ResyncWriting.{next_base}
-use Rattle.bisync_run.proofs.BasesSetBack.{digest_past}
 use Rattle.bisync_run.proofs.CarriedOut.{none_or_next, carried_out}
 use Rattle.bisync_run.proofs.EndLaws.{rose_since}
-use Rattle.bisync_run.proofs.FallsAsLaws.{falls_as_twice, lock_falls_as, never_rose, rewritten_falls_as, rewritten_fell}
+use Rattle.bisync_run.proofs.FallsAsLaws.{falls_as_twice, keeps_tree_same, lock_falls_as, never_rose, rewritten_falls_as, rewritten_fell}
 use Rattle.bisync_run.proofs.OwnNames.{locked_own, switched_own}
-use Rattle.bisync_run.proofs.LockedFolders.{ready_past}
+use Rattle.bisync_run.proofs.LockedFolders.{no_base_past, ready_past}
 use Rattle.bisync_run.proofs.OwnLocks.{own_around}
 use Rattle.bisync_run.proofs.resync_changes.carry_out.Goals as goal
 
@@ -93,12 +92,12 @@ returns-clause-fell g c work never =
 -- # The digest beside the base
 
 pub returns-in-Err-clause-digest_late : goal.returns-in-Err-clause-digest_late
-returns-in-Err-clause-digest_late g c work limit small fits base is = ⊎_elim inl (λ none. inr (inl none)) (c.write_resync.ensures.digest_late work limit base is)
+returns-in-Err-clause-digest_late g c work limit small fits base is =
+    ⊎_elim (λ same. inl (same.0, (keeps_tree_same g.A.Remote.tells (g.A.Remote.state c.args.one.now), keeps_tree_same g.B.Remote.tells (g.B.Remote.state c.args.two.now)), same.1)) (λ none. inr (inl none)) (c.write_resync.ensures.digest_late work limit base is)
 
 pub returns-in-Err-do_steps-clause-digest_late : goal.returns-in-Err-do_steps-clause-digest_late
 returns-in-Err-do_steps-clause-digest_late g c work limit small fits base is =
-    digest_past limit (next_base c.args.prepared) _ (g.W.Work.state c.args.work.now).folder (g.W.Work.state c.write_resync.new.work).folder (g.W.Work.state c.do_steps.new.work).folder base
-    (c.write_resync.ensures.digest_late work limit base is) (c.do_steps.ensures.lock work)
+    inr (inl (no_base_past (g.W.Work.state c.write_resync.new.work).folder (g.W.Work.state c.do_steps.new.work).folder (c.do_steps.ensures.lock work) limit (c.in-Ok.ensures.no_base work limit)))
 
 pub returns-in-Ok-switch-clause-digest_late : goal.returns-in-Ok-switch-clause-digest_late
 returns-in-Ok-switch-clause-digest_late g c work limit small fits base is =

@@ -4,12 +4,12 @@ use Rattle.bisync_device.specs.WorkFolder.{WorkFolder}
 use Rattle.bisync_model.specs.Trees.{by_side}
 use Rattle.bisync_run.specs.LeftNames.{FellWith}
 use Rattle.bisync_run.specs.Sides.{sides_of}
-use Rattle.bisync_run.proofs.BasesSetBack.{late_held}
+use Rattle.bisync_run.proofs.BasesSetBack.{late_held, late_same}
 use Rattle.bisync_run.proofs.CountedRuns.{counted_since}
 use Rattle.bisync_run.proofs.DoneSteps.{looked_told}
 use Rattle.bisync_run.proofs.EndCases.{device_answers, step_may_change, told_device}
 use Rattle.bisync_run.specs.Counts.{Counts}
-use Rattle.bisync_run.proofs.FallsAsLaws.{fell_held}
+use Rattle.bisync_run.proofs.FallsAsLaws.{fell_held, keeps_tree_twice}
 use Rattle.bisync_run.proofs.FolderBases.{carried_in_place, lost_or_next}
 use Rattle.bisync_run.proofs.OwnNames.{kept_own, resync_own}
 use Rattle.bisync_run.proofs.HeldLaws.{untouched, same_windows, looked_base, are_within, aside_held, base_held, done_held, trees_held, mix_held, outcome_held, finds_held, lines_held, numbers_held}
@@ -217,7 +217,8 @@ returns-clause-folder_base g c work =
 pub returns-in-Ok-carry_out-clause-digest_late : goal.returns-in-Ok-carry_out-clause-digest_late
 returns-in-Ok-carry_out-clause-digest_late g c work =
     let fits = are_within c.args.limits.now c.in-Ok.prepared c.in-Ok.ensures.within1 c.in-Ok.ensures.within2 in
-    late_held c.args.limits.now _ c.args.entered.now.digest (g.W.Work.state c.args.work.now).folder (g.W.Work.state c.look_resync.new.work).folder (c.in-Ok.ensures.folder work) c.in-Ok.prepared c.in-Ok.ensures.compare (c.in-Ok.ensures.new_stamp work) (g.W.Work.state c.carry_out.new.work).folder
+    late_held c.args.limits.now _ c.args.entered.now.digest (g.W.Work.state c.args.work.now).folder (g.W.Work.state c.look_resync.new.work).folder (c.in-Ok.ensures.folder work) c.in-Ok.prepared c.in-Ok.ensures.compare (c.in-Ok.ensures.new_stamp work) (g.W.Work.state c.carry_out.new.work).folder _ _
+    (λ kept. (keeps_tree_twice _ _ _ _ c.in-Ok.ensures.one.tree kept.0, keeps_tree_twice _ _ _ _ c.in-Ok.ensures.two.tree kept.1))
     (c.in-Ok-carry_out.ensures.digest_late work c.args.limits.now.listing (omega arith) fits)
 
 pub returns-clause-own_lock : goal.returns-clause-own_lock
@@ -227,7 +228,8 @@ returns-clause-own_lock g c work =
 pub returns-clause-digest_late : goal.returns-clause-digest_late
 returns-clause-digest_late g c work =
     let fits = are_within c.args.limits.now c.in-Ok.prepared c.in-Ok.ensures.within1 c.in-Ok.ensures.within2 in
-    late_held c.args.limits.now _ c.args.entered.now.digest (g.W.Work.state c.args.work.now).folder (g.W.Work.state c.look_resync.new.work).folder (c.in-Ok.ensures.folder work) c.in-Ok.prepared c.in-Ok.ensures.compare (c.in-Ok.ensures.new_stamp work) (g.W.Work.state c.carry_out.new.work).folder
+    late_held c.args.limits.now _ c.args.entered.now.digest (g.W.Work.state c.args.work.now).folder (g.W.Work.state c.look_resync.new.work).folder (c.in-Ok.ensures.folder work) c.in-Ok.prepared c.in-Ok.ensures.compare (c.in-Ok.ensures.new_stamp work) (g.W.Work.state c.carry_out.new.work).folder _ _
+    (λ kept. (keeps_tree_twice _ _ _ _ c.in-Ok.ensures.one.tree kept.0, keeps_tree_twice _ _ _ _ c.in-Ok.ensures.two.tree kept.1))
     (c.in-Err-carry_out.ensures.digest_late work c.args.limits.now.listing (omega arith) fits)
 
 -- # What both sides alone tell
@@ -358,3 +360,15 @@ returns-then-opts-clause-trees g c one two work =
     let a2 = g.A.Remote.state c.look_resync.new.one in
     let b2 = g.B.Remote.state c.look_resync.new.two in
     inl (untouched a b a2 b2 (c.look_resync.ensures.one.tree one) (c.look_resync.ensures.two.tree two), c.look_resync.ensures.folder work)
+
+pub returns-in-Err-clause-digest_late : goal.returns-in-Err-clause-digest_late
+returns-in-Err-clause-digest_late g c work = late_same c.args.limits.now _ _ _ _ _ (c.look_resync.ensures.folder work) (c.look_resync.ensures.one.tree, c.look_resync.ensures.two.tree)
+
+pub returns-in_default-clause-digest_late : goal.returns-in_default-clause-digest_late
+returns-in_default-clause-digest_late g c work = late_same c.args.limits.now _ _ _ _ _ (c.look_resync.ensures.folder work) (c.look_resync.ensures.one.tree, c.look_resync.ensures.two.tree)
+
+pub returns-in-Err-plan_lines-clause-digest_late : goal.returns-in-Err-plan_lines-clause-digest_late
+returns-in-Err-plan_lines-clause-digest_late g c work = late_same c.args.limits.now _ _ _ _ _ (c.look_resync.ensures.folder work) (c.look_resync.ensures.one.tree, c.look_resync.ensures.two.tree)
+
+pub returns-then-opts-clause-digest_late : goal.returns-then-opts-clause-digest_late
+returns-then-opts-clause-digest_late g c work = late_same c.args.limits.now _ _ _ _ _ (c.look_resync.ensures.folder work) (c.look_resync.ensures.one.tree, c.look_resync.ensures.two.tree)

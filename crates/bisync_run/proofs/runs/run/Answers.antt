@@ -21,7 +21,7 @@ use Rattle.bisync_run.proofs.EndLaws.{no_rise_since}
 use Rattle.bisync_run.proofs.FallsAsLaws.{resync_fell_told}
 use Rattle.bisync_run.proofs.FolderBases.{folder_base_told, folder_images}
 use Rattle.bisync_run.proofs.OwnLocks.{own_told as own_lock_told}
-use Rattle.bisync_run.proofs.OrdinaryTold.{ordinary_told, resilient_images, run_answers_told, run_images, run_tells_last}
+use Rattle.bisync_run.proofs.OrdinaryTold.{ordinary_told, resilient_images, run_answers_told, run_images, run_tells_last, stands_told}
 use Rattle.bisync_run.proofs.RunEnds.{caused_told}
 use Rattle.bisync_run.proofs.SafeRuns.{keeps_safe}
 use Rattle.bisync_run.proofs.ToldEnds.{after_good_told, good_told, told_same, answers_told, images}
@@ -91,11 +91,6 @@ returns-clause-kept g c work early =
     let told = early_told c.run_to_close-end.result c.tell_end.result c.tell_end.ensures.end early in
     kept_told c.args.opts.now c.run_to_close-end.result c.tell_end.result (g.W.Work.state c.args.work.now).folder (g.W.Work.state c.run_to_close-end.new.work).folder c.tell_end.ensures.end
     (c.run_to_close-end.ensures.kept work (ap may_have_changed (sym told) ∙ early))
-
-pub returns-clause-fallen : goal.returns-clause-fallen
-returns-clause-fallen g c work fell never =
-    let told = fell_told c.args.opts.now.resilient c.args.opts.now.dry_run c.run_to_close-end.result c.tell_end.result c.tell_end.ensures.end fell in
-    c.run_to_close-end.ensures.fallen work (ap (lets_fall c.args.opts.now.resilient c.args.opts.now.dry_run) (sym told) ∙ fell) never
 
 pub returns-clause-freed : goal.returns-clause-freed
 returns-clause-freed g c work freed = c.run_to_close-end.ensures.freed work (freed_told c.run_to_close-end.result c.tell_end.result c.tell_end.ensures.end freed)
@@ -369,6 +364,10 @@ returns-clause-set_back g c none one two work left is =
     let now = by_side (g.A.Remote.state c.run_to_close-end.new.one) (g.B.Remote.state c.run_to_close-end.new.two) in
     set_back_left c.args.limits.now _ (g.W.Work.state c.args.work.now).folder start (g.W.Work.state c.run_to_close-end.new.work).folder now left
     (c.run_to_close-end.ensures.set_back none one two work) (c.run_to_close-end.ensures.settled work) is
+
+pub returns-clause-stands : goal.returns-clause-stands
+returns-clause-stands g c none work =
+    stands_told c.args.opts.now c.args.limits.now c.run_to_close-end.result c.tell_end.result (g.W.Work.state c.args.work.now).folder (g.W.Work.state c.run_to_close-end.new.work).folder c.tell_end.ensures.end (c.run_to_close-end.ensures.stands none work)
 
 pub returns-clause-causes : goal.returns-clause-causes
 returns-clause-causes g c =
