@@ -22,11 +22,10 @@ use Rattle.bisync_run.specs.OrdinaryChanges.{IsPrepared, IsSetBack}
 use Rattle.bisync_run.specs.ResyncRuns.{Matter}
 use Rattle.bisync_run.specs.ResyncWriting.{next_base, stored}
 use Rattle.bisync_run.specs.Starts.{IsStartOf}
-use Rattle.bisync_run.specs.Untouched.{Remotes, AreUntouched}
+use Rattle.bisync_run.specs.Untouched.{Remotes}
 use Rattle.bisync_run.specs.declared.looks.Look.{Look}
 use Rattle.bisync_run.specs.declared.prepared.Prepared.{Prepared}
 use Rattle.bisync_run.specs.declared.starting.Started.{Started}
-use Rattle.bisync_run.proofs.DoneSteps.{untouched_twice}
 use Rattle.bisync_run.proofs.FolderBases.{next_of, ready_to}
 use Rattle.bisync_run.proofs.LockedFolders.{base_past, ready_past, same_listings, stamp_before}
 use Rattle.bisync_run.proofs.OrdinaryHeld.{prepared_of}
@@ -44,25 +43,25 @@ old_or_next limit f g h before prepared small back lock switches =
 
 -- # The ordinary run
 
-module _ (limits : Limits) (compare : Compare) (f : WorkFolder) (start mid now : Remotes) (g : WorkFolder) where
+module _ (limits : Limits) (compare : Compare) (f g : WorkFolder) (IsKept IsKeptSince : Type 0) where
   -- after it was carried out, from the base that it started from
-  pub set_back_held : limits.listing < 2 ^ 64 → AreUntouched start mid → (prepared : Prepared) → IsNextOf limits compare f (next_base prepared) → (before : Base) → IsBase limits.listing f (Some before)
-      → AreUntouched mid now ⊎ (HasBaseIn limits.listing g Old before ⊎ IsBase limits.listing g (Some (next_base prepared))) → LeavesBaseSetBack limits compare f start g now
-  set_back_held small looked prepared next before is left other has =
+  pub set_back_held : limits.listing < 2 ^ 64 → (IsKeptSince → IsKept) → (prepared : Prepared) → IsNextOf limits compare f (next_base prepared) → (before : Base) → IsBase limits.listing f (Some before)
+      → IsKeptSince ⊎ (HasBaseIn limits.listing g Old before ⊎ IsBase limits.listing g (Some (next_base prepared))) → LeavesBaseSetBack limits compare f g IsKept
+  set_back_held small since prepared next before is left other has =
       let one : before ≡ other = ap (λ (o : Option Base). unwrap_or o before) (base_is_one limits.listing f small (Some before) (Some other) is has) in
       ⊎_elim
-      (λ same. inl (untouched_twice looked same))
+      (λ same. inl (since same))
       (λ changed. inr (⊎_elim (λ old. inl (subst (HasBaseIn limits.listing g Old) one old)) (λ taken. inr (inr (next_base prepared, next, taken))) changed))
       left
 
 -- and from what started it
 pub ordinary_set_back : (opts : Opts) (limits : Limits) (compare : Compare) (digest : Option (List ℕ)) (f f2 : WorkFolder) (same : f2 ≡ f) (started : Started) (start : IsStartOf opts limits f digest started)
-    (made : Look) (fields : made.compare ≡ compare) → limits.listing < 2 ^ 64 → AreWithin limits.listing (prepared_of started.stamp made) → (before mid now : Remotes) (g : WorkFolder) → AreUntouched before mid
+    (made : Look) (fields : made.compare ≡ compare) → limits.listing < 2 ^ 64 → AreWithin limits.listing (prepared_of started.stamp made) → (g : WorkFolder) (IsKept IsKeptSince : Type 0) → (IsKeptSince → IsKept)
     → ((limit : ℕ) (base : Base) → IsPrepared limit f2 started.pair base (prepared_of started.stamp made)
-    → AreUntouched mid now ⊎ (HasBaseIn limit g Old base ⊎ IsBase limit g (Some (next_base (prepared_of started.stamp made)))))
-    → LeavesBaseSetBack limits compare f before g now
-ordinary_set_back opts limits compare digest f f2 same started start made fields small fits before mid now g looked left =
-    set_back_held limits compare f before mid now g small looked (prepared_of started.stamp made) (next_of limits compare f (prepared_of started.stamp made) fields start.new) start.base
+    → IsKeptSince ⊎ (HasBaseIn limit g Old base ⊎ IsBase limit g (Some (next_base (prepared_of started.stamp made)))))
+    → LeavesBaseSetBack limits compare f g IsKept
+ordinary_set_back opts limits compare digest f f2 same started start made fields small fits g IsKept IsKeptSince since left =
+    set_back_held limits compare f g IsKept IsKeptSince small since (prepared_of started.stamp made) (next_of limits compare f (prepared_of started.stamp made) fields start.new) start.base
     (started.pair, start.starts.is) (left limits.listing start.base (ready_to opts limits compare digest f f2 same started start made fields small fits))
 
 -- where it was set back before a side failed
@@ -125,8 +124,8 @@ module _ (limits : Limits) (compare : Compare) (f f2 g h : WorkFolder) (changes 
       other))
       (late base (base_past f f2 changes limits.listing base is))
 
-  pub old_closed : (start now : Remotes) → LeavesBaseSetBack limits compare f2 start g now → LeavesBaseSetBack limits compare f start h now
-  old_closed start now leaves before is =
+  pub old_closed : (IsKept : Type 0) → LeavesBaseSetBack limits compare f2 g IsKept → LeavesBaseSetBack limits compare f h IsKept
+  old_closed IsKept leaves before is =
       ⊎_elim
       (λ same. inl same)
       (λ other. inr (⊎_elim
@@ -140,10 +139,10 @@ module _ (limits : Limits) (compare : Compare) (f f2 g h : WorkFolder) (changes 
 pub same_image : (g left : WorkFolder) → IsSettled g → IsImage g left → SameListings g left
 same_image g left settled image = let r = image-settled g left settled image in record { one = r.one; two = r.two; one_old = r.one_old; two_old = r.two_old }
 
-pub set_back_left : (limits : Limits) (compare : Compare) (f : WorkFolder) (start : Remotes) (g : WorkFolder) (now : Remotes) (left : WorkFolder)
-    → LeavesBaseSetBack limits compare f start g now → (IsSettled f → IsSettled g) → MayBeLeft f g left → LeavesBaseSetBack limits compare f start left now
-set_back_left limits compare f start g now left leaves settled (inl same) before is = subst (λ (h : WorkFolder). LeavesBaseSetBack limits compare f start h now) (sym same) leaves before is
-set_back_left limits compare f start g now left leaves settled (inr image) before is =
+pub set_back_left : (limits : Limits) (compare : Compare) (f g left : WorkFolder) (IsKept : Type 0)
+    → LeavesBaseSetBack limits compare f g IsKept → (IsSettled f → IsSettled g) → MayBeLeft f g left → LeavesBaseSetBack limits compare f left IsKept
+set_back_left limits compare f g left IsKept leaves settled (inl same) before is = subst (λ (h : WorkFolder). LeavesBaseSetBack limits compare f h IsKept) (sym same) leaves before is
+set_back_left limits compare f g left IsKept leaves settled (inr image) before is =
     let same = same_image g left (settled image.0) image.1 in
     let keeps = same_keeps limits.listing g left same in
     ⊎_elim inl

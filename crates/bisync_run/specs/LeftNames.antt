@@ -17,7 +17,7 @@ use Rattle.bisync_run.specs.FolderBases.{TakesNext, compared}
 use Rattle.bisync_run.specs.KeptNames.{KeepsOwn, StandsSetBack, StoresRules}
 use Rattle.bisync_run.specs.ResyncRuns.{Matter}
 use Rattle.bisync_run.specs.ResyncWriting.{stored}
-use Rattle.bisync_run.specs.Untouched.{Remotes, AreUntouched}
+use Rattle.bisync_run.specs.Untouched.{Remotes}
 
 -- what is left at return, or an image of it after a stop, where the folder was settled at entry
 abbrev pub MayBeLeft : WorkFolder → WorkFolder → WorkFolder → Type 0
@@ -25,16 +25,16 @@ MayBeLeft f g left = (left ≡ g) ⊎ (IsSettled f × IsImage g left)
 
 -- # The names of the base
 
--- No side was touched; or the base before stands under the -old names, or there is none, or a new one.
-abbrev pub LeavesBaseSetBack : Limits → Compare → WorkFolder → Remotes → WorkFolder → Remotes → Type 0
-LeavesBaseSetBack limits compare f start g now =
+-- What is kept is kept; or the base before stands under the -old names, or there is none, or a new one.
+abbrev pub LeavesBaseSetBack : Limits → Compare → WorkFolder → WorkFolder → Type 0 → Type 0
+LeavesBaseSetBack limits compare f g IsKept =
     (before : Base) → IsBase limits.listing f (Some before)
-    → AreUntouched start now ⊎ (HasBaseIn limits.listing g Old before ⊎ (HasNoBase limits.listing g ⊎ TakesNext limits compare f g))
+    → IsKept ⊎ (HasBaseIn limits.listing g Old before ⊎ (HasNoBase limits.listing g ⊎ TakesNext limits compare f g))
 
 -- # The digest of the filters file
 
--- The base is the one before, and so is the digest, and what is kept is kept; or there is none; or it is a new one, and the
--- digest of the filters file stands beside it.
+-- The base is the one before, and so is the digest, and what is kept is kept; or there is none; or it is a new one, and beside
+-- it stands the digest of the filters file, where one is used, or else the digest before.
 abbrev pub StoresDigestOf : Opts → Limits → WorkFolder → Remotes → WorkFolder → Type 0 → Type 0
 StoresDigestOf opts limits f start g IsKept =
     (base : Option Base) → IsBase limits.listing f base

@@ -7,6 +7,7 @@ ghost use Rattle.bisync_model.specs.Trees.{by_side};
 ghost use Rattle.bisync_model.specs.Changes.{changes_of};
 ghost use Rattle.bisync_plan.specs.Plans.{AreWritable, header_of};
 ghost use Rattle.bisync_device.specs.Faults.{Rose};
+ghost use Rattle.bisync_device.specs.Remote.{KeepsTree};
 ghost use Rattle.bisync_device.specs.WorkFolder.{WorkFolder, IsSynced, IsSettled};
 ghost use Rattle.bisync_transfer.specs.StepTrees.{AreDone};
 ghost use Rattle.bisync_work.specs.declared.bases.Pair.TheVariants.{Old};
@@ -25,7 +26,6 @@ ghost use Rattle.bisync_run.specs.OrdinaryChanges.{IsPrepared, IsSetBack, KeepsO
 ghost use Rattle.bisync_run.specs.OwnNames.{HoldsOwn};
 ghost use Rattle.bisync_run.specs.ResyncWriting.{next_base};
 ghost use Rattle.bisync_run.specs.Stepping.{IsPartDone, FindsAll, FindsTold, IsStepEnd, MovedDiffers, MovedIsRead};
-ghost use Rattle.bisync_run.specs.Untouched.{AreUntouched};
 
 use crate::prepared::Prepared;
 use crate::steps::{Changes, Renewal, do_steps};
@@ -78,8 +78,8 @@ pub fn carry_out_ordinary<A: Remote, B: Remote, W: Work, C: Clock>(
     ensures folder_base { IsTrue W.tells → (limit : ℕ) (before : Base) → IsPrepared limit (W.state work.old).folder pair before prepared → KeepsOrNext limit prepared (may_have_switched_after result) (W.state work.old).folder (W.state work.new).folder }
     ensures falls_as { IsTrue W.tells → (Rose (W.state work.old).faults (W.state work.new).faults → ⊥) → IfErr result (λ _. FallsAs (W.state work.old).folder (W.state work.new).folder) }
     ensures own_lock { IsTrue W.tells → KeepsOwnLock renewal.max_lock C.tells (C.moment clock.old) (W.state work.old).folder.lock (W.state work.new).folder.lock }
-    ensures set_back { IsTrue A.tells → IsTrue B.tells → IsTrue W.tells → (limit : ℕ) (before : Base) → IsPrepared limit (W.state work.old).folder pair before prepared
-        → AreUntouched (by_side (A.state one.old) (B.state two.old)) (by_side (A.state one.new) (B.state two.new)) ⊎ (HasBaseIn limit (W.state work.new).folder Old before ⊎ IsBase limit (W.state work.new).folder (Some (next_base prepared))) }
+    ensures set_back { IsTrue W.tells → (limit : ℕ) (before : Base) → IsPrepared limit (W.state work.old).folder pair before prepared
+        → (KeepsTree A.tells (A.state one.old) (A.state one.new) × KeepsTree B.tells (B.state two.old) (B.state two.new)) ⊎ (HasBaseIn limit (W.state work.new).folder Old before ⊎ IsBase limit (W.state work.new).folder (Some (next_base prepared))) }
     ensures names { IsTrue W.tells → (limit : ℕ) (before : Base) (k : WorkFolder) → IsPrepared limit (W.state work.old).folder pair before prepared → IsNewStamp limit k prepared.stamp
         → SameListings k (W.state work.old).folder → HoldsOwn limit prepared.compare k (W.state work.new).folder }
     ensures stands { IsTrue W.tells → (limit : ℕ) (before : Base) → IsPrepared limit (W.state work.old).folder pair before prepared → IfErr result (λ end. IsSideEnd end → HasBaseIn limit (W.state work.new).folder Old before) }

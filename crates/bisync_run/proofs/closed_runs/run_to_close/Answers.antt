@@ -375,12 +375,12 @@ pub returns-clause-own_lock : goal.returns-clause-own_lock
 returns-clause-own_lock g c work = own_lock_closed c.args.opts.now _ _ _ _ c.close.result (g.W.Work.state c.args.work.now).folder (g.W.Work.state c.enter.new.work).folder (g.W.Work.state c.held-ended.new.work).folder (g.W.Work.state c.close.new.work).folder (c.in-Ok.entered.rules, c.in-Ok.entered.digest, c.in-Ok.ensures.rules (inl work)) c.in-Ok.ensures.moment (c.in-Ok.ensures.own_lock work) (c.held-ended.ensures.own_lock work) (c.close.ensures.closes work).lock
 
 pub returns-in-Err-clause-set_back : goal.returns-in-Err-clause-set_back
-returns-in-Err-clause-set_back g c none one two work before is = inl (untouched_same (by_side (g.A.Remote.state c.args.one.now) (g.B.Remote.state c.args.two.now)))
+returns-in-Err-clause-set_back g c none work before is = inl (keeps_tree_same g.A.Remote.tells (g.A.Remote.state c.args.one.now), keeps_tree_same g.B.Remote.tells (g.B.Remote.state c.args.two.now))
 
 pub returns-clause-set_back : goal.returns-clause-set_back
-returns-clause-set_back g c none one two work =
-    old_closed c.args.limits.now _ (g.W.Work.state c.args.work.now).folder (g.W.Work.state c.enter.new.work).folder (g.W.Work.state c.held-ended.new.work).folder (g.W.Work.state c.close.new.work).folder (c.in-Ok.ensures.others work) (c.close.ensures.closes work) (by_side (g.A.Remote.state c.args.one.now) (g.B.Remote.state c.args.two.now)) (by_side (g.A.Remote.state c.held-ended.new.one) (g.B.Remote.state c.held-ended.new.two))
-    (c.held-ended.ensures.set_back none one two work)
+returns-clause-set_back g c none work =
+    old_closed c.args.limits.now _ (g.W.Work.state c.args.work.now).folder (g.W.Work.state c.enter.new.work).folder (g.W.Work.state c.held-ended.new.work).folder (g.W.Work.state c.close.new.work).folder (c.in-Ok.ensures.others work) (c.close.ensures.closes work) _
+    (c.held-ended.ensures.set_back none work)
 
 pub returns-in-Err-clause-stands : goal.returns-in-Err-clause-stands
 returns-in-Err-clause-stands g c none work = inl ((keeps_tree_same g.A.Remote.tells (g.A.Remote.state c.args.one.now), keeps_tree_same g.B.Remote.tells (g.B.Remote.state c.args.two.now)), kept_unlocked _ _ _ (c.in-Err.ensures.others work))

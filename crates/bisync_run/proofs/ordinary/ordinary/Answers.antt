@@ -11,7 +11,7 @@ use Rattle.bisync_run.proofs.CauseLaws.{fails}
 use Rattle.bisync_run.proofs.CountedRuns.{counted_since}
 use Rattle.bisync_run.proofs.DoneSteps.{looked_told, untouched_same}
 use Rattle.bisync_run.proofs.EndCases.{false_true, step_may_change, told_device}
-use Rattle.bisync_run.proofs.FallsAsLaws.{falls_as_held, keeps_tree_same}
+use Rattle.bisync_run.proofs.FallsAsLaws.{falls_as_held, keeps_tree_same, keeps_tree_twice}
 use Rattle.bisync_run.proofs.FolderBases.{kept_or_next, next_in_place, ready_to}
 use Rattle.bisync_run.proofs.OwnNames.{kept_own, ordinary_own}
 use Rattle.bisync_run.proofs.HeldLaws.{untouched, same_windows, are_within}
@@ -350,22 +350,20 @@ returns-clause-falls_as g c work never =
     (work_same (g.W.Work.state c.args.work.now).faults (g.W.Work.state c.start.new.work).faults c.in-Ok.started c.in-Ok.ensures.causes) (c.in-Err-carry_out_ordinary.ensures.falls_as work) never
 
 pub returns-in-Ok-carry_out_ordinary-clause-set_back : goal.returns-in-Ok-carry_out_ordinary-clause-set_back
-returns-in-Ok-carry_out_ordinary-clause-set_back g c one two work =
+returns-in-Ok-carry_out_ordinary-clause-set_back g c work =
     ordinary_set_back c.args.opts.now c.args.limits.now _ c.args.entered.now.digest (g.W.Work.state c.args.work.now).folder (g.W.Work.state c.start.new.work).folder (c.in-Ok.ensures.folder work) c.in-Ok.started (c.in-Ok.ensures.starts work) c.in-Ok-look_ordinary.look
-    c.in-Ok-look_ordinary.ensures.compare (omega arith) (are_within c.args.limits.now (prepared_of c.in-Ok.started.stamp c.in-Ok-look_ordinary.look) c.in-Ok-look_ordinary.ensures.within1 c.in-Ok-look_ordinary.ensures.within2)
-    (by_side (g.A.Remote.state c.args.one.now) (g.B.Remote.state c.args.two.now)) (by_side (g.A.Remote.state c.look_ordinary.new.one) (g.B.Remote.state c.look_ordinary.new.two)) (by_side (g.A.Remote.state c.carry_out_ordinary.new.one) (g.B.Remote.state c.carry_out_ordinary.new.two)) (g.W.Work.state c.carry_out_ordinary.new.work).folder
-    (untouched _ _ _ _ (c.in-Ok-look_ordinary.ensures.one.tree one) (c.in-Ok-look_ordinary.ensures.two.tree two)) (c.in-Ok-carry_out_ordinary.ensures.set_back one two work)
+    c.in-Ok-look_ordinary.ensures.compare (omega arith) (are_within c.args.limits.now (prepared_of c.in-Ok.started.stamp c.in-Ok-look_ordinary.look) c.in-Ok-look_ordinary.ensures.within1 c.in-Ok-look_ordinary.ensures.within2) (g.W.Work.state c.carry_out_ordinary.new.work).folder _ _
+    (λ kept. (keeps_tree_twice _ _ _ _ c.in-Ok-look_ordinary.ensures.one.tree kept.0, keeps_tree_twice _ _ _ _ c.in-Ok-look_ordinary.ensures.two.tree kept.1)) (c.in-Ok-carry_out_ordinary.ensures.set_back work)
 
 pub returns-clause-own_lock : goal.returns-clause-own_lock
 returns-clause-own_lock g c work =
     own_around _ _ _ _ _ _ _ (ap (λ (w : WorkFolder). w.lock) (c.in-Ok.ensures.folder work)) (c.in-Err-carry_out_ordinary.ensures.own_lock work) refl
 
 pub returns-clause-set_back : goal.returns-clause-set_back
-returns-clause-set_back g c one two work =
+returns-clause-set_back g c work =
     ordinary_set_back c.args.opts.now c.args.limits.now _ c.args.entered.now.digest (g.W.Work.state c.args.work.now).folder (g.W.Work.state c.start.new.work).folder (c.in-Ok.ensures.folder work) c.in-Ok.started (c.in-Ok.ensures.starts work) c.in-Ok-look_ordinary.look
-    c.in-Ok-look_ordinary.ensures.compare (omega arith) (are_within c.args.limits.now (prepared_of c.in-Ok.started.stamp c.in-Ok-look_ordinary.look) c.in-Ok-look_ordinary.ensures.within1 c.in-Ok-look_ordinary.ensures.within2)
-    (by_side (g.A.Remote.state c.args.one.now) (g.B.Remote.state c.args.two.now)) (by_side (g.A.Remote.state c.look_ordinary.new.one) (g.B.Remote.state c.look_ordinary.new.two)) (by_side (g.A.Remote.state c.carry_out_ordinary.new.one) (g.B.Remote.state c.carry_out_ordinary.new.two)) (g.W.Work.state c.carry_out_ordinary.new.work).folder
-    (untouched _ _ _ _ (c.in-Ok-look_ordinary.ensures.one.tree one) (c.in-Ok-look_ordinary.ensures.two.tree two)) (c.in-Err-carry_out_ordinary.ensures.set_back one two work)
+    c.in-Ok-look_ordinary.ensures.compare (omega arith) (are_within c.args.limits.now (prepared_of c.in-Ok.started.stamp c.in-Ok-look_ordinary.look) c.in-Ok-look_ordinary.ensures.within1 c.in-Ok-look_ordinary.ensures.within2) (g.W.Work.state c.carry_out_ordinary.new.work).folder _ _
+    (λ kept. (keeps_tree_twice _ _ _ _ c.in-Ok-look_ordinary.ensures.one.tree kept.0, keeps_tree_twice _ _ _ _ c.in-Ok-look_ordinary.ensures.two.tree kept.1)) (c.in-Err-carry_out_ordinary.ensures.set_back work)
 
 pub returns-in-Ok-carry_out_ordinary-clause-counted : goal.returns-in-Ok-carry_out_ordinary-clause-counted
 returns-in-Ok-carry_out_ordinary-clause-counted g c = counted_since g.A.Remote.tells g.B.Remote.tells (g.A.Remote.state c.args.one.now) (g.B.Remote.state c.args.two.now) (g.A.Remote.state c.look_ordinary.new.one) (g.B.Remote.state c.look_ordinary.new.two) c.in-Ok-look_ordinary.ensures.one.tree c.in-Ok-look_ordinary.ensures.two.tree (by_side (g.A.Remote.state c.carry_out_ordinary.new.one) (g.B.Remote.state c.carry_out_ordinary.new.two)) c.in-Ok-carry_out_ordinary.changes.one c.in-Ok-carry_out_ordinary.changes.two c.in-Ok-carry_out_ordinary.ensures.counted
@@ -383,13 +381,13 @@ returns-clause-names g c work =
     (g.W.Work.state c.carry_out_ordinary.new.work).folder (c.in-Err-carry_out_ordinary.ensures.names work)
 
 pub returns-in_default-clause-set_back : goal.returns-in_default-clause-set_back
-returns-in_default-clause-set_back g c one two work before is = inl (untouched _ _ _ _ (c.in-Ok-look_ordinary.ensures.one.tree one) (c.in-Ok-look_ordinary.ensures.two.tree two))
+returns-in_default-clause-set_back g c work before is = inl (c.look_ordinary.ensures.one.tree, c.look_ordinary.ensures.two.tree)
 
 pub returns-in-Err-plan_lines-clause-set_back : goal.returns-in-Err-plan_lines-clause-set_back
-returns-in-Err-plan_lines-clause-set_back g c one two work before is = inl (untouched _ _ _ _ (c.in-Ok-look_ordinary.ensures.one.tree one) (c.in-Ok-look_ordinary.ensures.two.tree two))
+returns-in-Err-plan_lines-clause-set_back g c work before is = inl (c.look_ordinary.ensures.one.tree, c.look_ordinary.ensures.two.tree)
 
 pub returns-then-opts-clause-set_back : goal.returns-then-opts-clause-set_back
-returns-then-opts-clause-set_back g c one two work before is = inl (untouched _ _ _ _ (c.in-Ok-look_ordinary.ensures.one.tree one) (c.in-Ok-look_ordinary.ensures.two.tree two))
+returns-then-opts-clause-set_back g c work before is = inl (c.look_ordinary.ensures.one.tree, c.look_ordinary.ensures.two.tree)
 
 pub returns-in-Err-clause-names : goal.returns-in-Err-clause-names
 returns-in-Err-clause-names g c work = kept_own c.args.limits.now _ _ _ (c.start.ensures.folder work)
@@ -444,3 +442,6 @@ returns-then-opts-clause-stands g c work = inl ((c.look_ordinary.ensures.one.tre
 
 pub returns-in-Ok-carry_out_ordinary-clause-stands : goal.returns-in-Ok-carry_out_ordinary-clause-stands
 returns-in-Ok-carry_out_ordinary-clause-stands g c work = inr (λ side before is. absurd side)
+
+pub returns-in-Err-look_ordinary-clause-set_back : goal.returns-in-Err-look_ordinary-clause-set_back
+returns-in-Err-look_ordinary-clause-set_back g c work before is = inl (c.look_ordinary.ensures.one.tree, c.look_ordinary.ensures.two.tree)

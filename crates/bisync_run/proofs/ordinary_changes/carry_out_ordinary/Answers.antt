@@ -1,10 +1,8 @@
 use Rattle.std.proofs.Common.{inl, inr, ap, refl, ⊎_elim}
 use Rattle.bisync_device.specs.WorkFolder.{WorkFolder}
-use Rattle.bisync_model.specs.Trees.{by_side}
 use Rattle.bisync_run.proofs.BasesSetBack.{old_past, old_or_next}
-use Rattle.bisync_run.proofs.DoneSteps.{untouched_same}
 use Rattle.bisync_run.proofs.EndLaws.{rose_since}
-use Rattle.bisync_run.proofs.FallsAsLaws.{falls_as_twice, lock_falls_as, never_rose}
+use Rattle.bisync_run.proofs.FallsAsLaws.{falls_as_twice, keeps_tree_same, lock_falls_as, never_rose}
 use Rattle.bisync_run.proofs.OwnNames.{locked_own, switched_own}
 use Rattle.bisync_run.proofs.LockedFolders.{base_past}
 use Rattle.bisync_run.proofs.OwnLocks.{own_around}
@@ -66,19 +64,19 @@ returns-clause-folder_base g c work limit before is base has =
 -- # The names of the base
 
 pub returns-in-Err-clause-set_back : goal.returns-in-Err-clause-set_back
-returns-in-Err-clause-set_back g c one two work limit before is = inl (untouched_same (by_side (g.A.Remote.state c.args.one.now) (g.B.Remote.state c.args.two.now)))
+returns-in-Err-clause-set_back g c work limit before is = inl (keeps_tree_same g.A.Remote.tells (g.A.Remote.state c.args.one.now), keeps_tree_same g.B.Remote.tells (g.B.Remote.state c.args.two.now))
 
 pub returns-in-Err-do_steps-clause-set_back : goal.returns-in-Err-do_steps-clause-set_back
-returns-in-Err-do_steps-clause-set_back g c one two work limit before is =
+returns-in-Err-do_steps-clause-set_back g c work limit before is =
     inr (inl (old_past limit (g.W.Work.state c.write_ordinary.new.work).folder (g.W.Work.state c.do_steps.new.work).folder before c.args.prepared (c.in-Ok.ensures.set_back work limit before is) (c.do_steps.ensures.lock work)))
 
 pub returns-in-Ok-switch-clause-set_back : goal.returns-in-Ok-switch-clause-set_back
-returns-in-Ok-switch-clause-set_back g c one two work limit before is =
+returns-in-Ok-switch-clause-set_back g c work limit before is =
     inr (old_or_next limit (g.W.Work.state c.write_ordinary.new.work).folder (g.W.Work.state c.do_steps.new.work).folder (g.W.Work.state c.switch.new.work).folder before c.args.prepared is.small
     (c.in-Ok.ensures.set_back work limit before is) (c.do_steps.ensures.lock work) (c.switch.ensures.switches work))
 
 pub returns-clause-set_back : goal.returns-clause-set_back
-returns-clause-set_back g c one two work limit before is =
+returns-clause-set_back g c work limit before is =
     inr (old_or_next limit (g.W.Work.state c.write_ordinary.new.work).folder (g.W.Work.state c.do_steps.new.work).folder (g.W.Work.state c.switch.new.work).folder before c.args.prepared is.small
     (c.in-Ok.ensures.set_back work limit before is) (c.do_steps.ensures.lock work) (c.switch.ensures.switches work))
 

@@ -359,11 +359,9 @@ returns-clause-names g c work left is =
     own_left c.args.limits.now.listing _ (g.W.Work.state c.args.work.now).folder (g.W.Work.state c.run_to_close-end.new.work).folder left (c.run_to_close-end.ensures.names work) (c.run_to_close-end.ensures.settled work) is
 
 pub returns-clause-set_back : goal.returns-clause-set_back
-returns-clause-set_back g c none one two work left is =
-    let start = by_side (g.A.Remote.state c.args.one.now) (g.B.Remote.state c.args.two.now) in
-    let now = by_side (g.A.Remote.state c.run_to_close-end.new.one) (g.B.Remote.state c.run_to_close-end.new.two) in
-    set_back_left c.args.limits.now _ (g.W.Work.state c.args.work.now).folder start (g.W.Work.state c.run_to_close-end.new.work).folder now left
-    (c.run_to_close-end.ensures.set_back none one two work) (c.run_to_close-end.ensures.settled work) is
+returns-clause-set_back g c none work left is =
+    set_back_left c.args.limits.now _ (g.W.Work.state c.args.work.now).folder (g.W.Work.state c.run_to_close-end.new.work).folder left _
+    (c.run_to_close-end.ensures.set_back none work) (c.run_to_close-end.ensures.settled work) is
 
 pub returns-clause-stands : goal.returns-clause-stands
 returns-clause-stands g c none work =
